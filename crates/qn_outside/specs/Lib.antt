@@ -1,0 +1,4 @@
+pub mod Adapter
+pub mod Faults
+pub mod InMemory
+pub mod Reading

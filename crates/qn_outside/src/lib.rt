@@ -1,0 +1,20 @@
+// What the program reads from and writes to: sources and sinks, in memory and of the system.
+#![tactic(auto)]
+
+mod adapters;
+mod count;
+mod in_memory;
+mod read_whole;
+mod sink_in_memory;
+mod source_in_memory;
+#[cfg(test)]
+mod tests;
+mod traits;
+mod write_whole;
+
+pub use adapters::{StdSink, StdSource};
+pub use read_whole::{MAX_BYTES, ReadAllFault, read_all};
+pub use sink_in_memory::MemSink;
+pub use source_in_memory::MemSource;
+pub use traits::{Failed, Sink, Source};
+pub use write_whole::{WriteFault, write_all};
