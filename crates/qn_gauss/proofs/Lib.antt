@@ -1,0 +1,5 @@
+mod Digits
+pub mod Ring
+pub mod Conjugate
+pub mod Size
+pub mod Signs

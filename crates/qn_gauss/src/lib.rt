@@ -1,0 +1,14 @@
+//! Exact Gaussian integers of bounded magnitude, their decimals, and a counter of their products.
+#![tactic(auto)]
+
+mod decimal;
+mod gauss;
+mod magnitude;
+mod steps;
+#[cfg(test)]
+mod tests;
+
+pub use decimal::{parse_decimal, text, write_decimal};
+pub use gauss::{Gauss, LIMIT};
+pub use magnitude::{mag_add, mag_mul};
+pub use steps::Steps;
