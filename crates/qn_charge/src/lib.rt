@@ -1,0 +1,18 @@
+//! Charges of a product of up to four Abelian groups, each U(1) or Z_n, bosonic or fermionic.
+#![tactic(auto)]
+
+mod abelian;
+mod charge;
+mod factor;
+mod fault;
+mod group;
+mod laws;
+#[cfg(test)]
+mod tests;
+
+pub use abelian::Abelian;
+pub use charge::Charge;
+pub use factor::Factor;
+pub use fault::GroupFault;
+pub use group::Group;
+pub use laws::charge_laws;
