@@ -1,0 +1,18 @@
+-- Lists of values.
+use Rattle.std.proofs.Common.{◌≡◌, ℕ, ◌==◌, Bool, true, false, List, [], ◌∷◌, refl, sym, ap₂, eqb-true}
+use Rattle.std.proofs.lemmas.Bool.{and_parts, false≢true}
+use Rattle.qn_value.specs.Tensors.{same_values}
+
+pub same_values-equal : (xs ys : List ℕ) → same_values xs ys ≡ true → xs ≡ ys
+same_values-equal [] [] e = refl
+same_values-equal [] (y ∷ ys) e = absurd (false≢true e)
+same_values-equal (x ∷ xs) [] e = absurd (false≢true e)
+same_values-equal (x ∷ xs) (y ∷ ys) e =
+    let p = and_parts (x == y) (same_values xs ys) e in
+    ap₂ ◌∷◌ (eqb-true x y p.0) (same_values-equal xs ys p.1)
+
+-- two truth values that follow from each other
+pub both_ways : (a b : Bool) → (a ≡ true → b ≡ true) → (b ≡ true → a ≡ true) → a ≡ b
+both_ways true b f g = sym (f refl)
+both_ways false true f g = g refl
+both_ways false false f g = refl
