@@ -1,0 +1,9 @@
+pub mod Rows
+pub mod Lookup
+pub mod Entries
+pub mod Ascending
+pub mod Written
+pub mod Firsts
+pub mod Sound
+pub mod Mirror
+pub mod Dagger
