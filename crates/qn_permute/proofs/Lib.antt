@@ -1,0 +1,5 @@
+mod Columns
+mod Lines
+mod Widths
+mod Sorted
+mod Moves
