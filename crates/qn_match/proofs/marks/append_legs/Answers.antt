@@ -1,0 +1,22 @@
+use Rattle.std.proofs.Common.{rules, arith, ◌≡◌, ◌∙◌, ◌<◌, ◌+◌, ◌++◌, ◌∷◌, [], length, sym, subst, ap, get_or, true, false}
+use Rattle.qn_index.specs.Legs.{LegValue}
+use Rattle.qn_value.specs.Local.{no_leg}
+use Rattle.qn_match.proofs.Lefts.{AreLeft, left_kept, left_out}
+use Rattle.qn_match.proofs.marks.append_legs.Goals as goal
+use Rattle.qn_match.proofs.marks.append_legs.Goals.{then-not-marks-i+in_ok-copy+in_ok-push, else-not-marks-i}
+
+pub loop-i-preserved : goal.loop-i-preserved
+loop-i-preserved g c =
+    let ms = c.args.marks.now in
+    let xs = c.args.legs.now in
+    let i = c.loop-i.i in
+    let lt : i < length xs = omega arith in
+    elim c.if-not-marks-i.branch [
+      | then-not-marks-i+in_ok-copy+in_ok-push w ↦
+          let m : get_or ms i false ≡ false = search rules in
+          left_kept ms xs c.args.out.now.items c.loop-i.out.items c.if-not-marks-i.out.items i w.index-legs-i.result lt c.requires.count m w.index-legs-i.is
+          (ap (λ v. v.items) w.out-is ∙ (w.in_ok-push.ensures.items ∙ ap (λ (l : LegValue). c.loop-i.out.items ++ l ∷ []) w.in_ok-copy.ensures)) c.loop-i.invariant
+      | else-not-marks-i w ↦
+          let m : get_or ms i false ≡ true = search rules in
+          subst (λ v. AreLeft ms xs c.args.out.now.items v.items (i + 1)) (sym w.out-is) (left_out ms xs c.args.out.now.items c.loop-i.out.items i no_leg lt c.requires.count m c.loop-i.invariant)
+    ]

@@ -1,0 +1,6 @@
+use Rattle.std.proofs.Common.{◌≡◌}
+use Rattle.qn_match.specs.Pairs.{is_second, marks}
+use Rattle.qn_match.proofs.marks.second_marks.Given as goal
+
+abbrev pub invariant-loop-leg : goal.invariant-loop-leg
+invariant-loop-leg l = l.out.items ≡ marks (is_second l.shared) l.leg
