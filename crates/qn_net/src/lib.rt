@@ -1,0 +1,6 @@
+//! Networks.
+#![tactic(auto)]
+
+mod plain;
+
+pub use plain::plain_value;
