@@ -1,0 +1,4 @@
+pub mod Faults
+pub mod Tree
+pub mod Forms
+pub mod Texts
