@@ -1,0 +1,7 @@
+use Rattle.qn_cli.proofs.tell.write_step.Goals as goal
+
+pub returns-clause-whole : goal.returns-clause-whole
+returns-clause-whole g c = rw (c.as_slice.ensures, c.as_bytes.ensures.value, c.format.ensures.text, c.as_slice-2.ensures) at c.write_pieces.ensures.whole
+
+pub returns-clause-part : goal.returns-clause-part
+returns-clause-part g c = rw (c.as_slice.ensures, c.as_bytes.ensures.value, c.format.ensures.text, c.as_slice-2.ensures) at c.write_pieces.ensures.part

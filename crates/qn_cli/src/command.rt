@@ -1,0 +1,152 @@
+//! One command, from words and bytes to a text and a status.
+ghost use Rattle.std.specs.Prelude.{◌≡◌, ℕ, ◌+◌, ◌<◌, ◌≤◌, ◌⊎◌, List, Option, Some, None, IfOk, IfErr, IfSome, map, string_bytes, length};
+ghost use Rattle.std.specs.Io.KnownBytes.{Keeps, Consumes, Appends, IsAtEnd};
+ghost use Rattle.qn_outside.specs.Faults.{Rose};
+ghost use Rattle.qn_doc.specs.Faults.{fault};
+ghost use Rattle.qn_cli.specs.declared.words.Job.{Job};
+ghost use Rattle.qn_cli.specs.Words.{job_of};
+ghost use Rattle.qn_cli.specs.Outcomes.{outcome_of, answered, refused, unbuilt, cost_of, most_bytes};
+ghost use Rattle.qn_cli.specs.Answers.{Tells, IsRefusal, IsStatusOf, EndsOn};
+ghost use Rattle.qn_cli.specs.Lines.{line_of, TellsLine};
+
+use crate::contraction::contract;
+use crate::gate::Gate;
+use crate::status::Status;
+use crate::tell::tell;
+use crate::words::{Job, read_words};
+use qn_doc::{DocFault, Fault, read_tree};
+use qn_gauss::Steps;
+use qn_outside::{ReadAllFault, Sink, Source, read_all, write_all};
+use std::alloc::Global;
+use std::sync::ledger::Ledger;
+use std::thread::Threads;
+
+/// The text that answers the bytes, or the status in its place.
+fn text_for<L: Ledger>(
+    alloc: Global,
+    job: Job,
+    bytes: &[u8],
+    steps: &mut Steps<L>,
+) -> Result<Vec<u8>, Status>
+    requires { length bytes.now ≤ most_bytes }
+    ensures text { IfOk result (λ text. outcome_of job bytes.now ≡ answered text.items) }
+    ensures status { IfErr result (λ s. IsRefusal s × Tells job s bytes.now) }
+    ensures cost { steps.new ≤ steps.old + cost_of job bytes.now }
+{
+    let tree = match read_tree(alloc, bytes) {
+        Ok(tree) => tree,
+        Err(DocFault::Bad(fault)) => return Err(Status::Malformed { fault }),
+        Err(DocFault::Memory) => return Err(Status::Memory),
+    };
+    match job {
+        Job::Contract { workers } => contract(alloc, workers, &tree, steps),
+    }
+}
+
+fn too_long() -> Status
+    ensures { result ≡ Status.Malformed (fault 1 0 0 0) }
+{
+    Status::Malformed {
+        fault: Fault::of_code(1),
+    }
+}
+
+/// Reads, answers and writes.
+fn attempt<S: Source, O: Sink, L: Ledger>(
+    alloc: Global,
+    job: Job,
+    source: &mut S,
+    out: &mut O,
+    steps: &mut Steps<L>,
+) -> Status
+    ensures bytes { (bytes : List ℕ) × EndsOn job (S.left source.old) (S.left source.new)
+        (O.held out.old) (O.held out.new) steps.old steps.new result bytes }
+    ensures read_fault { result ≡ Status.ReadFault → Rose (S.faults source.old) (S.faults source.new) }
+    ensures write_fault { result ≡ Status.WriteFault → Rose (O.faults out.old) (O.faults out.new) }
+{
+    let bytes = match read_all(alloc, source) {
+        Ok(bytes) => bytes,
+        Err(ReadAllFault::ReadFault) => return Status::ReadFault,
+        Err(ReadAllFault::TooLong) => return too_long(),
+        Err(ReadAllFault::Memory) => return Status::Memory,
+    };
+    let text = match text_for(alloc, job, bytes.as_slice(), steps) {
+        Ok(text) => text,
+        Err(status) => return status,
+    };
+    match write_all(out, text.as_slice()) {
+        Ok(()) => Status::Done,
+        Err(_) => Status::WriteFault,
+    }
+}
+
+/// Does what the words ask for.
+fn obey<S: Source, O: Sink, L: Ledger>(
+    alloc: Global,
+    words: &[String],
+    source: &mut S,
+    out: &mut O,
+    steps: &mut Steps<L>,
+) -> Status
+    ensures words { job_of (map string_bytes words.now) ≡ None
+        → (result ≡ Status.NotBuilt) × (source.new ≡ source.old) × (out.new ≡ out.old) × (steps.new ≡ steps.old) }
+    ensures bytes { (job : Job) → job_of (map string_bytes words.now) ≡ Some job
+        → (bytes : List ℕ) × EndsOn job (S.left source.old) (S.left source.new)
+        (O.held out.old) (O.held out.new) steps.old steps.new result bytes }
+    ensures read_fault { result ≡ Status.ReadFault → Rose (S.faults source.old) (S.faults source.new) }
+    ensures write_fault { result ≡ Status.WriteFault → Rose (O.faults out.old) (O.faults out.new) }
+{
+    match read_words(words) {
+        Some(job) => attempt(alloc, job, source, out, steps),
+        None => Status::NotBuilt,
+    }
+}
+
+/// Runs the command that the words ask for: reads a document from `source`, writes its answer to
+/// `out`, and, unless it is done, writes to `err` the line that says how it ended.
+///
+/// The text is made whole before its first byte is written. A failure of `err` changes no status.
+/// Memory may come in place of any answer; each other status comes as the clauses say.
+pub fn run<S: Source, O: Sink, E: Sink, G: Gate, L: Ledger, R: Threads + Sync>(
+    rt: &R,
+    alloc: Global,
+    words: &[String],
+    source: &mut S,
+    out: &mut O,
+    err: &mut E,
+    gate: &G,
+    steps: &mut Steps<L>,
+) -> Status
+    // Other words than those of a job: nothing is read or written.
+    ensures words { job_of (map string_bytes words.now) ≡ None
+        → (result ≡ Status.NotBuilt) × (source.new ≡ source.old) × (out.new ≡ out.old) × (steps.new ≡ steps.old) }
+
+    // With a job some bytes came, and the call ends as the job and these bytes ask.
+    ensures bytes { (job : Job) → job_of (map string_bytes words.now) ≡ Some job
+        → (bytes : List ℕ) × EndsOn job (S.left source.old) (S.left source.new)
+        (O.held out.old) (O.held out.new) steps.old steps.new result bytes }
+
+    // Where the source tells its bytes, they have an answer and nothing failed: the whole text, or want of memory.
+    ensures complete { IfSome (S.left source.old) (λ bytes. (job : Job) (text : List ℕ)
+        → job_of (map string_bytes words.now) ≡ Some job → outcome_of job bytes ≡ answered text
+        → ¬ Rose (S.faults source.old) (S.faults source.new) → ¬ Rose (O.faults out.old) (O.faults out.new)
+        → ((result ≡ Status.Done) × Appends (O.held out.old) (O.held out.new) text) ⊎ (result ≡ Status.Memory)) }
+
+    // Where the source tells its bytes and no read failed, the status is the one that they ask for, or want of memory.
+    ensures exact { IfSome (S.left source.old) (λ bytes. (job : Job)
+        → job_of (map string_bytes words.now) ≡ Some job
+        → ¬ Rose (S.faults source.old) (S.faults source.new)
+        → IsStatusOf (outcome_of job bytes) result ⊎ (result ≡ Status.Memory)) }
+
+    // A fault of the source or of the sink is told only where its count rose.
+    ensures read_fault { result ≡ Status.ReadFault → Rose (S.faults source.old) (S.faults source.new) }
+    ensures write_fault { result ≡ Status.WriteFault → Rose (O.faults out.old) (O.faults out.new) }
+
+    // The line of the status, or a part from its front and the count of `err` rose; with Done nothing.
+    ensures line { TellsLine (E.held err.old) (E.held err.new) (E.faults err.old) (E.faults err.new) (line_of result) }
+    ensures silent { result ≡ Status.Done → err.new ≡ err.old }
+{
+    let status = obey(alloc, words, source, out, steps);
+    let _ = tell(err, &status);
+    status
+}
