@@ -1,2 +1,3 @@
 pub mod Blocked
 pub mod Refusals
+pub mod Steps
