@@ -1,15 +1,15 @@
 -- Blocks in ascending order, and blocks that are left out.
-use Rattle.std.proofs.Common.{Contains, ◌≡◌, ◌≢◌, ℕ, ℤ, pos, zero, suc, ◌+◌, ◌≤◌, ◌<◌, List, [], ◌∷◌, length, get_or, filter, take, not, ◌&&◌, ◌||◌, arith, refl, ap, ◌∙◌, sym, subst, ◌⊎◌, inl, inr, Bool, true, false, cond, add-one}
+use Rattle.std.proofs.Common.{◌≡◌, ℕ, ℤ, pos, suc, ◌+◌, ◌≤◌, ◌<◌, List, [], ◌∷◌, length, get_or, filter, take, not, ◌||◌, arith, refl, ap, ◌∙◌, sym, subst, ◌⊎◌, inl, inr, Bool, true, false, cond}
 use Rattle.std.specs.Cmp.Lexicographic.{slice_cmp}
 use Rattle.std.specs.Ordering.{nat_cmp, int_eq}
 use Rattle.std.specs.Cmp.{signed_Decides}
 use Rattle.std.specs.declared.cmp.Ordering.TheVariants.{Less}
-use Rattle.std.specs.List.{All, AllPairs, list_any}
+use Rattle.std.specs.List.{AllPairs, list_any}
 use Rattle.std.proofs.lemmas.List.{get_or_default, get_or_past}
 use Rattle.std.proofs.lemmas.List.Kept.{AllPairs-filter}
 use Rattle.std.proofs.lemmas.List.Elements.{All-filter}
 use Rattle.std.proofs.lemmas.List.Folds.{list_any_at, list_any_more}
-use Rattle.std.proofs.lemmas.Bool.{and_parts, cases_lt, false_from_ne_true, false≢true}
+use Rattle.std.proofs.lemmas.Bool.{and_parts, cases_lt, false≢true}
 use Rattle.qn_charge.specs.declared.factor.Factor.{Factor}
 use Rattle.qn_gauss.specs.Gaussian.{Gaussian, zero_g}
 use Rattle.qn_index.specs.Legs.{LegValue, total}
@@ -18,7 +18,6 @@ use Rattle.qn_value.specs.Tensors.{BlockValue, no_block, same_values, entry_in, 
 use Rattle.qn_value.proofs.Values.{same_values-equal}
 use Rattle.qn_block.specs.Blocked.{BlockedValue, IsBlocked, tensor_of, is_zero, is_filled}
 use Rattle.qn_block.specs.Refusals.{block_at}
-use Rattle.qn_block.proofs.Rows.{differ_from}
 use Rattle.qn_block.proofs.Lookup.{not_below_itself, entry_nowhere}
 use Rattle.qn_block.proofs.Entries.{by_blocks, entry_out_of_range}
 

@@ -1,5 +1,5 @@
 -- The conjugate of a tensor held in blocks.
-use Rattle.std.proofs.Common.{Contains, ◌≡◌, ◌≢◌, ℕ, ℤ, zero, suc, ◌+◌, ◌-◌, ◌^◌, ◌≤◌, ◌<◌, List, [], ◌∷◌, ◌++◌, length, get_or, map, reverse, not, arith, refl, ap, ◌∙◌, sym, subst, ◌⊎◌, inl, inr, Bool, true, false, ◌&&◌, ap₂}
+use Rattle.std.proofs.Common.{Contains, ◌≡◌, ◌≢◌, ℕ, ℤ, zero, suc, ◌+◌, ◌-◌, ◌^◌, ◌<◌, List, [], ◌∷◌, length, get_or, map, reverse, arith, refl, ap, ◌∙◌, sym, subst, ◌⊎◌, inl, inr, Bool, true, false, ◌&&◌, ap₂}
 use Rattle.std.specs.List.{All, AllPairs}
 use Rattle.std.specs.List.Sorted.{IsPermutation, IsSortedBy}
 use Rattle.std.specs.Cmp.{IsStrictWeakOrder}
@@ -9,27 +9,26 @@ use Rattle.std.specs.Ordering.{nat_cmp, is_lt, is_gt, ordering_reverse}
 use Rattle.std.proofs.lemmas.Bool.Decides.{nat_tests}
 use Rattle.std.specs.declared.cmp.Ordering.{Ordering}
 use Rattle.std.specs.declared.cmp.Ordering.TheVariants.{Less, Equal, Greater}
-use Rattle.std.proofs.lemmas.Cmp.{nat_list_cmp_total, upto, tied_itself}
+use Rattle.std.proofs.lemmas.Cmp.{nat_list_cmp_total, upto}
 use Rattle.std.proofs.lemmas.Bool.{false≢true}
-use Rattle.std.proofs.lemmas.List.{get_or_default, reverse-reverse, length-reverse, length-map}
-use Rattle.std.proofs.lemmas.List.Sorted.{IsPermutation-map, IsPermutation-sym, IsPermutation-reverse, Contains-permutation, All-permutation, length_permutation}
+use Rattle.std.proofs.lemmas.List.{get_or_default, reverse-reverse, length-map}
+use Rattle.std.proofs.lemmas.List.Sorted.{IsPermutation-map, IsPermutation-sym, Contains-permutation, All-permutation}
 use Rattle.std.proofs.lemmas.Map.Keys.{IsDistinct-IsPermutation}
 use Rattle.std.proofs.lemmas.Map.Made.{AllPairs-from_IsDistinct, IsDistinct-from_AllPairs}
 use Rattle.qn_charge.specs.declared.factor.Factor.{Factor}
 use Rattle.qn_charge.specs.Charges.{neg_charge}
 use Rattle.qn_charge.specs.Laws.{canonical_neg, within_neg}
 use Rattle.qn_charge.specs.Firsts.{HasNone}
-use Rattle.qn_gauss.specs.Gaussian.{Gaussian, zero_g, conj_g}
-use Rattle.qn_index.specs.Legs.{LegValue, IsSound, IsLegOf, flipped, total}
-use Rattle.qn_index.specs.Tuples.{IsTuple, IsFlux, net}
+use Rattle.qn_gauss.specs.Gaussian.{zero_g, conj_g}
+use Rattle.qn_index.specs.Legs.{LegValue, IsSound, IsLegOf}
+use Rattle.qn_index.specs.Tuples.{IsTuple, net}
 use Rattle.qn_index.specs.Places.{IsValues, IsInner, sectors_at, offset_at, offset_of, block_size}
-use Rattle.qn_index.specs.Extents.{IsWithinLimits}
 use Rattle.qn_index.proofs.Nets.{tuple_length}
 use Rattle.qn_value.specs.Tensors.{BlockValue, no_block, same_values, entry_in, entry_of, IsBlock, AreAscending}
 use Rattle.qn_value.proofs.Values.{same_values-equal}
 use Rattle.qn_block.specs.Blocked.{BlockedValue, IsBlocked, IsConjugate, IsConjugateBlock, AreDistinct, conjugate_legs, offsets_at, tensor_of}
 use Rattle.qn_block.specs.Refusals.{block_at, NotAscendingAt}
-use Rattle.qn_block.proofs.Rows.{same_from, differ_from}
+use Rattle.qn_block.proofs.Rows.{same_from}
 use Rattle.qn_block.proofs.Lookup.{same_tuple, not_below_itself, values_length, offset_same, entry_found, entry_nowhere}
 use Rattle.qn_block.proofs.Entries.{by_blocks, entry_out_of_range}
 use Rattle.qn_block.proofs.Ascending.{in_range_or_not, blocked_at}
@@ -161,21 +160,11 @@ conjugate_is t cs ds h n made p ascending = record {
   ascending = ascending;
 }
   where
-    turned : (P : LegValue → Type 0) → ((l : LegValue) → P l → P (flipped l)) → All P t.legs → All P (conjugate_legs t.legs)
-    turned P keep all = All-permutation P (map flipped t.legs) (conjugate_legs t.legs) (IsPermutation-reverse (map flipped t.legs)) (λ k d lt.
-        let le : k < length t.legs = omega (arith, lt, length-map t.legs flipped) in
-        subst P (sym (get_or-map-here t.legs k d le)) (keep (get_or t.legs k d) (all k d le)))
-      where
-        get_or-map-here : (ls : List LegValue) (k : ℕ) (d : LegValue) → k < length ls → get_or (map flipped ls) k d ≡ flipped (get_or ls k d)
-        get_or-map-here [] k d lt = absurd (omega arith)
-        get_or-map-here (l ∷ ls) zero d lt = refl
-        get_or-map-here (l ∷ ls) (suc k) d lt = get_or-map-here ls k d (omega arith)
-
     sound : All IsSound (conjugate_legs t.legs)
-    sound = turned IsSound (λ l h. h) h.sound
+    sound = Mirror.conjugate_all IsSound t.legs (λ l h. h) h.sound
 
     charges : All (IsLegOf t.group) (conjugate_legs t.legs)
-    charges = turned (IsLegOf t.group) (λ l h. h) h.charges
+    charges = Mirror.conjugate_all (IsLegOf t.group) t.legs (λ l h. h) h.charges
 
 find_or_not : (bs : List BlockValue) (t : List ℕ) → ((i : ℕ) × (i < length bs) × ((block_at bs i).tuple ≡ t)) ⊎ ((j : ℕ) → j < length bs → (block_at bs j).tuple ≢ t)
 find_or_not [] t = inr (λ j lt e. omega arith)

@@ -1,8 +1,6 @@
 -- The entries of a tensor held in blocks.
-use Rattle.std.proofs.Common.{Contains, ◌≡◌, ◌≢◌, ℕ, ℤ, ◌+◌, ◌≤◌, ◌<◌, List, length, get_or, arith, refl, ap, ◌∙◌, sym, subst}
-use Rattle.std.specs.List.{All}
+use Rattle.std.proofs.Common.{Contains, ◌≡◌, ◌≢◌, ℕ, ◌≤◌, ◌<◌, List, length, get_or, arith, ap, ◌∙◌, sym, subst}
 use Rattle.std.proofs.lemmas.List.{get_or_default}
-use Rattle.qn_charge.specs.declared.factor.Factor.{Factor}
 use Rattle.qn_gauss.specs.Gaussian.{zero_g}
 use Rattle.qn_index.specs.Legs.{LegValue}
 use Rattle.qn_index.specs.Tuples.{IsTuple, net}

@@ -7,3 +7,13 @@ pub mod Firsts
 pub mod Sound
 pub mod Mirror
 pub mod Dagger
+pub mod Counted
+pub mod Occurring
+pub mod Partition
+pub mod Fusing
+pub mod Matching
+pub mod Located
+pub mod TableRows
+pub mod OddValues
+pub mod TableEntries
+pub mod Canonical

@@ -1,5 +1,5 @@
 -- Blocks found by their tuples.
-use Rattle.std.proofs.Common.{Contains, ◌≡◌, ◌≢◌, ℕ, zero, suc, ◌+◌, ◌*◌, ◌≤◌, ◌<◌, List, [], ◌∷◌, ◌++◌, length, get_or, take, drop, set, add-one, arith, refl, ap, ◌∙◌, sym, subst, ◌⊎◌, inl, inr, ⊎_elim, Bool, true, false, cond}
+use Rattle.std.proofs.Common.{◌≡◌, ◌≢◌, ℕ, zero, suc, ◌+◌, ◌*◌, ◌≤◌, ◌<◌, List, [], ◌∷◌, ◌++◌, length, get_or, take, drop, set, add-one, arith, refl, ap, ◌∙◌, sym, subst, ◌⊎◌, inl, inr, ⊎_elim, cond}
 use Rattle.std.specs.Cmp.Lexicographic.{slice_cmp}
 use Rattle.std.specs.Ordering.{nat_cmp, ordering_then, ordering_index}
 use Rattle.std.specs.List.Sorted.{IsSearchInRange, IsBinarySearchResult, IsNonDecreasingBy}
@@ -14,7 +14,7 @@ use Rattle.qn_gauss.specs.Gaussian.{zero_g}
 use Rattle.qn_index.specs.Legs.{LegValue, total, sector_of, offset_in}
 use Rattle.qn_index.specs.Places.{IsValues, IsInner, sectors_at, offset_at, offset_of, block_size}
 use Rattle.qn_index.proofs.Sectors.{place_of_value}
-use Rattle.qn_value.specs.Tensors.{BlockValue, no_block, same_values, entry_in, AreAscending}
+use Rattle.qn_value.specs.Tensors.{BlockValue, no_block, entry_in, AreAscending}
 use Rattle.qn_block.specs.Blocked.{offsets_at}
 use Rattle.qn_block.specs.Refusals.{block_at}
 use Rattle.qn_block.proofs.Rows.{same_from, differ_from}

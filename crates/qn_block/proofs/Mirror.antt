@@ -1,26 +1,28 @@
 -- Reversed and turned legs.
-use Rattle.std.proofs.Common.{◌≡◌, ◌≢◌, ℕ, ℤ, zero, suc, ◌+◌, ◌*◌, ◌/◌, ◌%◌, ◌-◌, ◌≤◌, ◌<◌, ◌^◌, List, [], ◌∷◌, ◌++◌, length, get_or, drop, map, reverse, Bool, true, false, cond, arith, refl, ap, ◌∙◌, sym, subst, add-one}
+use Rattle.std.proofs.Common.{◌≡◌, ℕ, ℤ, zero, suc, ◌+◌, ◌*◌, ◌/◌, ◌%◌, ◌≤◌, ◌<◌, List, [], ◌∷◌, ◌++◌, length, get_or, drop, map, reverse, true, cond, arith, refl, ap, ◌∙◌, sym, subst, add-one}
 use Rattle.std.specs.List.{All}
 use Rattle.std.specs.Cmp.Lexicographic.{pointwise}
 use Rattle.std.specs.Ordering.{int_eq}
 use Rattle.std.specs.Cmp.Rules.{signed_items}
 use Rattle.std.proofs.lemmas.List.{reverse-append, length-reverse, length-map}
+use Rattle.std.proofs.lemmas.List.Elements.{All-map}
+use Rattle.std.proofs.lemmas.List.Sorted.{All-permutation, IsPermutation-reverse}
 use Rattle.std.proofs.Math.ListN.{drop_of_length-le}
 use Rattle.std.proofs.lemmas.Nat.{div-mul-add, mod-mul-add}
 use Rattle.std.proofs.Math.Nat.{mul_comm, mul_assoc, mul-le-mul_left, mul-le-mul_right}
 use Rattle.qn_charge.specs.declared.factor.Factor.{Factor}
-use Rattle.qn_charge.specs.Charges.{IsGroup, IsCanonical, IsWithin, sum_charge, neg_charge, zero_charge}
-use Rattle.qn_charge.specs.Laws.{associative_charge, commutative_charge, zero_is_neutral, canonical_sum, canonical_neg, canonical_zero, neg_of_neg, neg_of_sum, neg_of_zero, within_neg}
+use Rattle.qn_charge.specs.Charges.{IsGroup, IsCanonical, sum_charge, neg_charge, zero_charge}
+use Rattle.qn_charge.specs.Laws.{associative_charge, commutative_charge, canonical_sum, canonical_neg, neg_of_neg, neg_of_sum, neg_of_zero}
 use Rattle.qn_index.specs.declared.leg.Dir.{Dir}
 use Rattle.qn_index.specs.declared.leg.Dir.TheVariants.{Out, In}
 use Rattle.qn_index.specs.Legs.{LegValue, SectorValue, IsSound, IsLegOf, IsOf, no_sector, other_way, flipped, sector_at, sector_of, offset_in, total}
-use Rattle.qn_index.specs.Tuples.{IsTuple, IsFlux, net, signed, turned, count, upward}
+use Rattle.qn_index.specs.Tuples.{IsTuple, net, signed, turned, count, upward}
 use Rattle.qn_index.specs.Places.{IsInner, IsValues, block_size, offset_of, sectors_at}
-use Rattle.qn_index.specs.Extents.{entries, size_of, IsWithinLimits}
+use Rattle.qn_index.specs.Extents.{entries, size_of}
 use Rattle.qn_index.specs.Weights.{remaining}
 use Rattle.qn_index.proofs.Nets.{tuple_length}
 use Rattle.qn_index.proofs.Places.{inner_length, inner_of_offset}
-use Rattle.qn_index.proofs.Admitted.{entries_step, total_over, mul_add, net_canonical, same_tests}
+use Rattle.qn_index.proofs.Admitted.{entries_step, total_over, mul_add, same_tests}
 use Rattle.qn_block.specs.Blocked.{conjugate_legs, offsets_at}
 use Rattle.qn_block.proofs.Lookup.{values_length}
 
@@ -67,7 +69,7 @@ offset_snoc (k ∷ ls) l (x ∷ t) (p ∷ os) s o n m =
     add_mul : (a b d : ℕ) → (a + b) * d ≡ a * d + b * d
     add_mul a b d = mul_comm (a + b) d ∙ (mul_add d a b ∙ (ap (λ m. m + d * b) (mul_comm d a) ∙ ap (λ m. a * d + m) (mul_comm d b)))
 
-net_snoc : (fs : List Factor) (ls : List LegValue) (l : LegValue) (t : List ℕ) (s : ℕ) → IsGroup fs → length t ≡ length ls → net fs (ls ++ (l ∷ [])) (t ++ (s ∷ [])) ≡ sum_charge fs (net fs ls t) (signed fs l s)
+pub net_snoc : (fs : List Factor) (ls : List LegValue) (l : LegValue) (t : List ℕ) (s : ℕ) → IsGroup fs → length t ≡ length ls → net fs (ls ++ (l ∷ [])) (t ++ (s ∷ [])) ≡ sum_charge fs (net fs ls t) (signed fs l s)
 net_snoc fs [] l [] s g n = commutative_charge fs (signed fs l s) (zero_charge fs)
 net_snoc fs [] l (x ∷ t) s g n = absurd (omega arith)
 net_snoc fs (k ∷ ls) l [] s g n = absurd (omega arith)
@@ -78,7 +80,7 @@ count_snoc : (ls : List LegValue) (l : LegValue) → count (ls ++ (l ∷ [])) �
 count_snoc [] l = omega arith
 count_snoc (k ∷ ls) l = ap (λ m. length k.sectors * m) (count_snoc ls l) ∙ sym (mul_assoc (length k.sectors) (count ls) (length l.sectors))
 
-sectors_snoc : (ls : List LegValue) (l : LegValue) (xs : List ℕ) (x : ℕ) → length xs ≡ length ls → sectors_at (ls ++ (l ∷ [])) (xs ++ (x ∷ [])) ≡ sectors_at ls xs ++ (sector_of l.sectors x ∷ [])
+pub sectors_snoc : (ls : List LegValue) (l : LegValue) (xs : List ℕ) (x : ℕ) → length xs ≡ length ls → sectors_at (ls ++ (l ∷ [])) (xs ++ (x ∷ [])) ≡ sectors_at ls xs ++ (sector_of l.sectors x ∷ [])
 sectors_snoc [] l [] x n = refl
 sectors_snoc [] l (y ∷ xs) x n = absurd (omega arith)
 sectors_snoc (k ∷ ls) l [] x n = absurd (omega arith)
@@ -90,13 +92,16 @@ offsets_snoc [] l (y ∷ xs) x n = absurd (omega arith)
 offsets_snoc (k ∷ ls) l [] x n = absurd (omega arith)
 offsets_snoc (k ∷ ls) l (y ∷ xs) x n = ap (λ ys. offset_in k.sectors y ∷ ys) (offsets_snoc ls l xs x (omega arith))
 
-values_snoc : (ls : List LegValue) (l : LegValue) (xs : List ℕ) (x : ℕ) → IsValues ls xs → x < total l.sectors → IsValues (ls ++ (l ∷ [])) (xs ++ (x ∷ []))
+pub values_snoc : (ls : List LegValue) (l : LegValue) (xs : List ℕ) (x : ℕ) → IsValues ls xs → x < total l.sectors → IsValues (ls ++ (l ∷ [])) (xs ++ (x ∷ []))
 values_snoc [] l [] x h lt = (lt, refl)
 values_snoc [] l (y ∷ xs) x h lt = absurd (let e : y ∷ xs ≡ [] = h in cc)
 values_snoc (k ∷ ls) l [] x h lt = absurd h
 values_snoc (k ∷ ls) l (y ∷ xs) x h lt = (h.0, values_snoc ls l xs x h.1 lt)
 
 -- ---- legs, tuples and values backwards
+
+pub conjugate_all : (P : LegValue → Type 0) (ls : List LegValue) → ((l : LegValue) → P l → P (flipped l)) → All P ls → All P (conjugate_legs ls)
+conjugate_all P ls keep all = All-permutation P (map flipped ls) (conjugate_legs ls) (IsPermutation-reverse (map flipped ls)) (All-map P flipped ls (λ k d lt. keep (get_or ls k d) (all k d lt)))
 
 pub conjugate_length : (ls : List LegValue) → length (conjugate_legs ls) ≡ length ls
 conjugate_length ls = length-reverse (map flipped ls) ∙ length-map ls flipped

@@ -1,5 +1,5 @@
 -- Blocks in which no fault was found are those of a tensor.
-use Rattle.std.proofs.Common.{◌≡◌, ◌≢◌, ℕ, ℤ, zero, suc, ◌+◌, ◌-◌, ◌≤◌, ◌<◌, List, [], ◌∷◌, length, get_or, arith, refl, ap, ◌∙◌, sym, subst, ◌⊎◌, inl, inr, Bool, true, false}
+use Rattle.std.proofs.Common.{◌≡◌, ◌≢◌, ℕ, ℤ, zero, suc, ◌+◌, ◌-◌, ◌≤◌, ◌<◌, List, length, arith, refl, ◌∙◌, sym, subst, ◌⊎◌, inl, inr, Bool, true, false}
 use Rattle.std.specs.List.{All}
 use Rattle.std.specs.Cmp.Lexicographic.{slice_cmp, pointwise}
 use Rattle.std.specs.Ordering.{nat_cmp, int_eq}
@@ -13,8 +13,8 @@ use Rattle.qn_charge.specs.declared.factor.Factor.{Factor}
 use Rattle.qn_charge.specs.Firsts.{HasNone}
 use Rattle.qn_gauss.specs.Gaussian.{Gaussian}
 use Rattle.qn_index.specs.Legs.{LegValue}
-use Rattle.qn_index.specs.Tuples.{IsTuple, IsAdmissible, net}
-use Rattle.qn_index.specs.Places.{IsValues, block_size}
+use Rattle.qn_index.specs.Tuples.{IsAdmissible, net}
+use Rattle.qn_index.specs.Places.{block_size}
 use Rattle.qn_index.specs.Extents.{entries, IsWithinLimits}
 use Rattle.qn_index.proofs.Admitted.{block_within}
 use Rattle.qn_value.specs.Tensors.{BlockValue, no_block, IsBlock, AreAscending, entry_in, entry_of}

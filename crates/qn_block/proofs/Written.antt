@@ -1,11 +1,11 @@
 -- Values written leg by leg, and blocks made for listed tuples.
-use Rattle.std.proofs.Common.{Contains, ◌≡◌, ◌≢◌, ℕ, ℤ, zero, suc, ◌+◌, ◌*◌, ◌/◌, ◌%◌, ◌-◌, ◌≤◌, ◌<◌, List, [], ◌∷◌, ◌++◌, length, get_or, take, drop, set, filter, arith, refl, ap, ◌∙◌, sym, subst, add-one, append_assoc, ◌⊎◌, inl, inr, Bool, true, false, cond}
-use Rattle.std.specs.List.{All, AllPairs}
+use Rattle.std.proofs.Common.{Contains, ◌≡◌, ℕ, ℤ, zero, suc, ◌+◌, ◌*◌, ◌/◌, ◌%◌, ◌-◌, ◌≤◌, ◌<◌, List, [], ◌∷◌, ◌++◌, length, get_or, take, drop, set, arith, refl, ap, ◌∙◌, sym, subst, add-one, append_assoc, ◌⊎◌, inl, inr}
+use Rattle.std.specs.List.{AllPairs}
 use Rattle.std.specs.Cmp.Lexicographic.{slice_cmp}
 use Rattle.std.specs.Ordering.{nat_cmp}
 use Rattle.std.specs.declared.cmp.Ordering.TheVariants.{Less}
 use Rattle.std.proofs.Math.Nat.{mul-div_cancel_left}
-use Rattle.std.proofs.lemmas.Bool.{cases_lt, false≢true}
+use Rattle.std.proofs.lemmas.Bool.{cases_lt}
 use Rattle.std.proofs.lemmas.List.{get_or_default, get_or_append_left, length-set, take_more_set, take_all, append-nil}
 use Rattle.std.proofs.Math.ListN.{drop_of_length-le}
 use Rattle.std.proofs.Math.Seq.{get_or-append_right}
@@ -19,11 +19,9 @@ use Rattle.qn_index.proofs.Places.{back, forth, values_in}
 use Rattle.qn_index.proofs.Nets.{tuple_length}
 use Rattle.qn_index.proofs.Admitted.{unlisted, admitted_ascend, block_within}
 use Rattle.qn_index.proofs.Shapes.{below_product}
-use Rattle.qn_value.specs.Tensors.{BlockValue, no_block, same_values, entry_in, IsBlock, AreAscending}
-use Rattle.qn_value.proofs.Values.{same_values-equal}
+use Rattle.qn_value.specs.Tensors.{BlockValue, no_block, entry_in, IsBlock, AreAscending}
 use Rattle.qn_block.specs.Blocked.{MeetFlux}
 use Rattle.qn_block.specs.Refusals.{block_at}
-use Rattle.qn_block.proofs.Rows.{same_from}
 use Rattle.qn_block.proofs.Lookup.{entry_found}
 
 -- ---- values

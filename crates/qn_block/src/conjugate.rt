@@ -12,7 +12,10 @@ use qn_index::{Leg, Tuple, block_len, known_all};
 use std::alloc::{AllocError, Global};
 
 /// The legs in reversed order, each with the other arrow.
-fn conjugate_legs<const K: usize>(alloc: Global, legs: &[Leg<K>]) -> Result<Vec<Leg<K>>, AllocError>
+pub(crate) fn conjugate_legs<const K: usize>(
+    alloc: Global,
+    legs: &[Leg<K>],
+) -> Result<Vec<Leg<K>>, AllocError>
     ensures { IfOk result (λ v. v.items ≡ conjugate_legs legs.now) }
 {
     let mut turned = Vec::with_capacity(alloc, legs.len())?;

@@ -54,7 +54,7 @@ fn any_not_zero(entries: &[Gauss]) -> bool
 
 impl Block {
     /// Whether an entry is not 0.
-    fn is_filled(&self) -> bool
+    pub fn is_filled(&self) -> bool
         ensures { result ≡ is_filled self.now }
     {
         any_not_zero(&self.entries)

@@ -20,7 +20,7 @@ fn find(blocks: &[Block], tuple: &[u32]) -> Option<usize>
 }
 
 /// The sector of each leg's value, and the value's offset in that sector.
-fn placed<const K: usize>(legs: &[Leg<K>], values: &[u32]) -> ([u32; 64], [u32; 64])
+pub(crate) fn placed<const K: usize>(legs: &[Leg<K>], values: &[u32]) -> ([u32; 64], [u32; 64])
     requires few { length legs.now ≤ 64 }
     requires values { IsValues legs.now values.now }
     ensures sectors { take (length legs.now) result.0 ≡ sectors_at legs.now values.now }
@@ -35,6 +35,21 @@ fn placed<const K: usize>(legs: &[Leg<K>], values: &[u32]) -> ([u32; 64], [u32; 
         offsets[i] = offset;
     }
     (sectors, offsets)
+}
+
+/// Whether there is one value for each leg, in its range.
+pub(crate) fn are_in_range<const K: usize>(legs: &[Leg<K>], values: &[u32]) -> bool
+    ensures { IsTrue result ↔ IsValues legs.now values.now }
+{
+    if values.len() != legs.len() {
+        return false;
+    }
+    for i in 0..legs.len() {
+        if values[i] >= legs[i].dim() {
+            return false;
+        }
+    }
+    true
 }
 
 impl<const K: usize> BlockTensor<K> {
@@ -54,16 +69,7 @@ impl<const K: usize> BlockTensor<K> {
     pub fn is_in_range(&self, values: &[u32]) -> bool
         ensures { IsTrue result ↔ IsValues self.now.legs values.now }
     {
-        let legs = self.legs();
-        if values.len() != legs.len() {
-            return false;
-        }
-        for i in 0..legs.len() {
-            if values[i] >= legs[i].dim() {
-                return false;
-            }
-        }
-        true
+        are_in_range(self.legs(), values)
     }
 
     /// The entry at one value for each leg. Takes no memory.

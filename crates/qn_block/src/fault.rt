@@ -54,3 +54,40 @@ impl<T: Drop> From<AllocFailed<T>> for BlockFault {
         BlockFault::Memory
     }
 }
+
+/// Why legs can't be fused.
+#[derive(Clone, Copy, Debug, PartialEq, Eq, Error)]
+pub enum FuseFault {
+    /// There is no leg.
+    #[error("no legs")]
+    Empty,
+    /// The fused leg breaks a limit of a leg: more than 64 charges, a sector of more than 65,536 values,
+    /// more than 2^20 values, or a U(1) part above 10^9 in size.
+    #[error("the fused leg is out of range")]
+    FusedRange,
+    /// Memory was wanting.
+    #[error("out of memory")]
+    Memory,
+}
+
+impl From<AllocError> for FuseFault {
+    ghost use Rattle.std.specs.Prelude.{◌≡◌};
+    ghost use Rattle.qn_block.specs.declared.fault.FuseFault.TheVariants.{Memory};
+
+    ghost from_gives = { λ _ e. e ≡ Memory };
+
+    fn from(_e: AllocError) -> FuseFault {
+        FuseFault::Memory
+    }
+}
+
+impl<T: Drop> From<AllocFailed<T>> for FuseFault {
+    ghost use Rattle.std.specs.Prelude.{◌≡◌};
+    ghost use Rattle.qn_block.specs.declared.fault.FuseFault.TheVariants.{Memory};
+
+    ghost from_gives = { λ _ e. e ≡ Memory };
+
+    fn from(_e: AllocFailed<T>) -> FuseFault {
+        FuseFault::Memory
+    }
+}

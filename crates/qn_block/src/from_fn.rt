@@ -18,7 +18,7 @@ use qn_index::{Leg, Tuple, admissible, block_len};
 use std::alloc::{AllocError, Global};
 
 /// Writes the values at a place of the tuple's block, which has `size` entries.
-fn write_values<const K: usize>(
+pub(crate) fn write_values<const K: usize>(
     legs: &[Leg<K>],
     tuple: &[u32],
     size: u64,
@@ -91,4 +91,25 @@ pub(crate) fn blocks_from<const K: usize, F: Fn(&[u32]) -> Gauss>(
         blocks.push(block_of(alloc, legs, tuple, f)?)?;
     }
     Ok(blocks)
+}
+
+/// The tensor whose entries are the function's answers, where its shape is known to be within the limits.
+pub(crate) fn tensor_from<const K: usize, F: Fn(&[u32]) -> Gauss>(
+    alloc: Global,
+    group: Group<K>,
+    legs: Vec<Leg<K>>,
+    flux: Charge<K>,
+    f: &F,
+) -> Result<BlockTensor<K>, AllocError>
+    requires group { All (IsLegOf group) legs.items }
+    requires flux { IsFlux group flux }
+    requires shape { IsWithinLimits group legs.items flux }
+    requires callable { (x : _) → MeetFlux group legs.items flux x.now → F.pre f.now x }
+    ensures group { IfOk result (λ t. t.group ≡ group.entry) }
+    ensures legs { IfOk result (λ t. t.legs ≡ legs.entry.items) }
+    ensures flux { IfOk result (λ t. t.flux ≡ flux.entry) }
+    ensures entries { IfOk result (λ t. (xs : List ℕ) → MeetFlux t.group t.legs t.flux xs → FnReturnsAt F.Fn f.now xs (entry_of (tensor_of t) xs)) }
+{
+    let blocks = blocks_from(alloc, &group, &legs, &flux, f)?;
+    Ok(BlockTensor::of_blocks(group, legs, flux, blocks))
 }

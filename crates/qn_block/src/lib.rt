@@ -1,7 +1,11 @@
 //! Tensors that conserve charge, held in blocks.
 #![tactic(auto)]
 
+mod charges;
 mod checks;
+mod combiner;
+#[cfg(test)]
+mod combiner_tests;
 mod conjugate;
 mod copies;
 mod entry;
@@ -9,11 +13,16 @@ mod fault;
 mod from_fn;
 pub mod laws;
 mod new;
+mod starts;
 mod step;
+mod table;
 mod tensor;
 #[cfg(test)]
 mod tests;
+mod values;
 
-pub use fault::BlockFault;
+pub use combiner::Combiner;
+pub use fault::{BlockFault, FuseFault};
+pub use starts::Start;
 pub use step::StepFault;
 pub use tensor::{Block, BlockTensor};

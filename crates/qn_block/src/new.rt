@@ -12,7 +12,7 @@ use crate::checks::{
     check_shape, first_bad_length, first_bad_tuple, first_not_ascending, first_off_flux,
 };
 use crate::fault::BlockFault;
-use crate::from_fn::blocks_from;
+use crate::from_fn::tensor_from;
 use crate::tensor::{Block, BlockTensor};
 use qn_charge::{Charge, Group};
 use qn_gauss::Gauss;
@@ -89,7 +89,6 @@ impl<const K: usize> BlockTensor<K> {
         ensures err { IfErr result (IsShapeFault group.entry legs.entry.items flux.entry) }
     {
         check_shape(alloc, &group, &legs, &flux)?;
-        let blocks = blocks_from(alloc, &group, &legs, &flux, f)?;
-        Ok(BlockTensor::of_blocks(group, legs, flux, blocks))
+        Ok(tensor_from(alloc, group, legs, flux, f)?)
     }
 }

@@ -11,16 +11,16 @@ use std::alloc::{AllocError, Global};
 use std::process::Abort;
 use std::test::Fail;
 
-const FERMION: Factor = Factor::U1 { fermion: true };
+pub(crate) const FERMION: Factor = Factor::U1 { fermion: true };
 
 // A charge and a dimension, one for each sector.
-type Sectors<'a> = &'a [(i64, u32)];
+pub(crate) type Sectors<'a> = &'a [(i64, u32)];
 
 // An arrow and sectors, so many times.
-type Row<'a> = (usize, Dir, Sectors<'a>);
+pub(crate) type Row<'a> = (usize, Dir, Sectors<'a>);
 
 // A leg of these sectors.
-fn leg_of(
+pub(crate) fn leg_of(
     rt: &impl Abort,
     alloc: Global,
     group: &Group<1>,
@@ -43,7 +43,7 @@ fn leg_of(
 }
 
 // Legs of these arrows and sectors.
-fn legs_of(
+pub(crate) fn legs_of(
     rt: &impl Abort,
     alloc: Global,
     group: &Group<1>,
@@ -72,7 +72,7 @@ fn flux_of(rt: &impl Abort, group: &Group<1>, part: i64) -> Charge<1>
     }
 }
 
-fn number(re: i128, im: i128) -> Gauss {
+pub(crate) fn number(re: i128, im: i128) -> Gauss {
     match Gauss::new(re, im) {
         Some(number) => number,
         None => Gauss::ZERO,
@@ -110,7 +110,7 @@ fn tensor_of(
 }
 
 // The entry at these values, which have to be in range.
-fn entry_of(rt: &impl Abort, tensor: &BlockTensor<1>, values: &[u32]) -> Gauss {
+pub(crate) fn entry_of(rt: &impl Abort, tensor: &BlockTensor<1>, values: &[u32]) -> Gauss {
     assert!(rt; tensor.is_in_range(values));
     tensor.entry(values)
 }

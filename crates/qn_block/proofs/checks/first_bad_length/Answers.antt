@@ -1,4 +1,4 @@
-use Rattle.std.proofs.Common.{arith, ap, ◌≡◌, ◌∙◌, sym, lit<}
+use Rattle.std.proofs.Common.{arith, ap, ◌≡◌, ◌∙◌, lit<}
 use Rattle.qn_index.specs.Places.{block_size}
 use Rattle.qn_value.specs.Tensors.{BlockValue}
 use Rattle.qn_block.specs.Refusals.{block_at}

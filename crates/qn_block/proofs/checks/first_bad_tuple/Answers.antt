@@ -1,4 +1,3 @@
-use Rattle.std.proofs.Common.{arith}
 use Rattle.qn_block.proofs.Firsts.{bad_by_length, bad_by_sector}
 use Rattle.qn_block.proofs.checks.first_bad_tuple.Goals as goal
 

@@ -1,5 +1,4 @@
-use Rattle.std.proofs.Common.{arith, ap, length, ◌≡◌, sym}
-use Rattle.qn_index.specs.Legs.{LegValue}
+use Rattle.std.proofs.Common.{arith, ap, length}
 use Rattle.qn_block.specs.Refusals.{IsNoSector}
 use Rattle.qn_block.proofs.Firsts.{none_more, none_at_all, no_sector_at, no_sector_below, sector_at_place, tuple_from}
 use Rattle.qn_block.proofs.checks.first_no_sector.Goals as goal

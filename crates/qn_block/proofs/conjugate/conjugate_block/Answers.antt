@@ -1,6 +1,5 @@
-use Rattle.std.proofs.Common.{arith, ◌≡◌, ◌∙◌, ◌<◌, ap, sym, refl, List, ℕ, length, reverse}
+use Rattle.std.proofs.Common.{arith, ◌∙◌, ap, refl, reverse}
 use Rattle.qn_index.specs.Places.{offset_of, block_size}
-use Rattle.qn_index.proofs.Nets.{tuple_length}
 use Rattle.qn_block.specs.Blocked.{conjugate_legs}
 use Rattle.qn_block.proofs.Mirror.{place_below}
 use Rattle.qn_block.proofs.conjugate.conjugate_block.Goals as goal

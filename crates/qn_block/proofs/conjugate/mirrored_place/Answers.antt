@@ -1,7 +1,7 @@
 use Rattle.std.proofs.Common.{rules, arith, ◌≡◌, ◌∙◌, ◌<◌, ◌+◌, ◌*◌, ◌%◌, ◌^◌, ap, length, lit<, get_or}
 use Rattle.qn_index.specs.Legs.{LegValue, sector_at}
 use Rattle.qn_index.proofs.Nets.{tuple_length, tuple_at}
-use Rattle.qn_block.proofs.Mirror.{IsMirrorStep, mirror_more, mirror_end, mirror_place}
+use Rattle.qn_block.proofs.Mirror.{mirror_more, mirror_end, mirror_place}
 use Rattle.qn_block.proofs.conjugate.mirrored_place.Goals as goal
 
 pub bounds-tuple-i : goal.bounds-tuple-i

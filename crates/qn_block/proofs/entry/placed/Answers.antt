@@ -1,4 +1,4 @@
-use Rattle.std.proofs.Common.{rules, arith, refl, ap, ◌∙◌, sym, ◌<◌, length, lit<}
+use Rattle.std.proofs.Common.{arith, ◌∙◌, sym, length, lit<}
 use Rattle.qn_block.proofs.Lookup.{values_length, value_at, sectors_length, offsets_length, sector_is, offset_is, filled_more, filled_all}
 use Rattle.qn_index.specs.Places.{sectors_at}
 use Rattle.qn_block.specs.Blocked.{offsets_at}

@@ -6,10 +6,10 @@ use Rattle.qn_index.specs.Tuples.{IsTuple, net, admitted}
 use Rattle.qn_index.specs.Places.{sectors_at, block_size}
 use Rattle.qn_index.proofs.Places.{forth}
 use Rattle.qn_index.proofs.Admitted.{listed}
-use Rattle.qn_value.specs.Tensors.{BlockValue, IsBlock, AreAscending, no_block}
+use Rattle.qn_value.specs.Tensors.{BlockValue, IsBlock, no_block}
 use Rattle.qn_block.specs.Blocked.{MeetFlux}
 use Rattle.qn_block.specs.Refusals.{block_at}
-use Rattle.qn_block.proofs.Written.{IsFilled, IsListed, Under, listed_at, meets_at, admitted_pairs, filled_more, filled_ascend, filled_answer}
+use Rattle.qn_block.proofs.Written.{IsFilled, Under, listed_at, meets_at, admitted_pairs, filled_more, filled_ascend, filled_answer}
 use Rattle.qn_block.proofs.from_fn.blocks_from.Goals as goal
 
 pub block_of-requires : goal.block_of-requires

@@ -1,7 +1,7 @@
-use Rattle.std.proofs.Common.{rules, arith, ◌≡◌, ◌∙◌, ◌<◌, ◌+◌, ◌/◌, ◌^◌, ap, sym, length, lit<, get_or, ℕ}
-use Rattle.qn_index.specs.Legs.{LegValue, sector_at, before}
+use Rattle.std.proofs.Common.{rules, arith, ◌≡◌, ◌∙◌, ◌<◌, ◌/◌, ◌^◌, ap, length, lit<, get_or}
+use Rattle.qn_index.specs.Legs.{LegValue, sector_at}
 use Rattle.qn_index.proofs.Nets.{tuple_length, tuple_at}
-use Rattle.qn_block.proofs.Written.{IsNext, written_more, written_all}
+use Rattle.qn_block.proofs.Written.{written_more}
 use Rattle.qn_block.proofs.from_fn.write_values.Goals as goal
 
 pub bounds-tuple-i : goal.bounds-tuple-i

@@ -1,7 +1,6 @@
-use Rattle.std.proofs.Common.{rules, arith, ◌≡◌, ◌∙◌, sym, ap, refl, lit<, filter, List}
+use Rattle.std.proofs.Common.{rules, ◌≡◌, ◌∙◌, ap, lit<, filter}
 use Rattle.std.proofs.lemmas.Fn.{filter_same}
-use Rattle.qn_value.specs.Tensors.{BlockValue}
-use Rattle.qn_block.specs.Blocked.{is_filled, BlockedValue}
+use Rattle.qn_block.specs.Blocked.{is_filled}
 use Rattle.qn_block.proofs.Ascending.{blocked_at, filtered_is, filtered_entry}
 use Rattle.qn_block.proofs.tensor.BlockTensor.canonical.Goals as goal
 

@@ -1,8 +1,7 @@
-use Rattle.std.proofs.Common.{arith, ◌≡◌, ◌∙◌, ap, sym, subst, lit<, List, ℤ}
+use Rattle.std.proofs.Common.{arith, ◌≡◌, ◌∙◌, ap, sym, subst, lit<, List}
 use Rattle.qn_charge.specs.Charges.{IsCanonical, IsWithin, neg_charge}
 use Rattle.qn_charge.specs.Laws.{within_neg, within_more}
 use Rattle.qn_charge.specs.declared.factor.Factor.{Factor}
-use Rattle.qn_index.specs.Legs.{LegValue}
 use Rattle.qn_block.specs.Blocked.{conjugate_legs}
 use Rattle.qn_block.proofs.Dagger.{AreConjugates, conjugates_at, conjugate_parts, conjugate_result}
 use Rattle.qn_block.proofs.tensor.BlockTensor.dag.Goals as goal

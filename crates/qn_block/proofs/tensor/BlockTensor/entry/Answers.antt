@@ -1,6 +1,6 @@
-use Rattle.std.proofs.Common.{rules, arith, ℕ, List, refl, ap, ◌≡◌, ◌≢◌, ◌∙◌, ◌<◌, sym, subst, length, take, get_or, lit<}
+use Rattle.std.proofs.Common.{arith, List, ap, ◌≡◌, ◌∙◌, sym, length, take, get_or, lit<}
 use Rattle.qn_index.specs.Legs.{LegValue}
-use Rattle.qn_index.specs.Places.{sectors_at, offset_at}
+use Rattle.qn_index.specs.Places.{sectors_at}
 use Rattle.qn_gauss.specs.Gaussian.{zero_g}
 use Rattle.qn_block.proofs.Entries.{reading, entry_of_none}
 use Rattle.qn_block.proofs.tensor.BlockTensor.entry.Goals as goal
