@@ -1,7 +1,6 @@
 -- What the parts of a pair's tasks ask for follows from what is asked of the pair.
 use Rattle.std.proofs.Common.{◌≡◌, ℕ, ◌<◌, ◌≤◌, ◌^◌, ℤ, List, length, get_or, arith, sym, subst}
 use Rattle.std.specs.List.{All}
-use Rattle.std.proofs.lemmas.List.Elements.{All-append}
 use Rattle.qn_charge.specs.declared.factor.Factor.{Factor}
 use Rattle.qn_charge.specs.Charges.{IsCanonical, IsWithin, sum_charge}
 use Rattle.qn_charge.specs.Laws.{within_more}
@@ -10,8 +9,8 @@ use Rattle.qn_index.specs.Tuples.{IsFlux, count}
 use Rattle.qn_index.proofs.Nets.{tuple_length}
 use Rattle.qn_value.specs.Tensors.{BlockValue}
 use Rattle.qn_block.specs.Blocked.{BlockedValue, IsBlocked}
-use Rattle.qn_match.specs.Pairs.{joined, is_first, is_second, marks, unmarked, IsPair}
-use Rattle.qn_match.proofs.Lefts.{all_unmarked}
+use Rattle.qn_match.specs.Pairs.{joined, IsPair}
+use Rattle.qn_match.proofs.Paired.{joined_legs}
 
 -- the sum of the fluxes can be made
 pub record AreAdded (fs : List Factor) (p q : List ℤ) : Type 0 where
@@ -25,7 +24,7 @@ are_added a b sh fs p q e f g ha hb h =
     let base : AreAdded a.group a.flux b.flux = record {
       first = ha.flux.canonical;
       second = subst (λ gs. IsCanonical gs b.flux) (sym h.group) hb.flux.canonical;
-      within = within_more (2 ^ 50) (2 ^ 62) a.group (sum_charge a.group a.flux b.flux) le h.flux.within;
+      within = within_more (2 ^ 50) (2 ^ 62) a.group (sum_charge a.group a.flux b.flux) le h.shapes.flux.within;
     } in
     subst (λ gs. AreAdded gs p q) (sym e) (subst (λ x. AreAdded a.group x q) (sym f) (subst (λ y. AreAdded a.group a.flux y) (sym g) base))
 
@@ -39,15 +38,11 @@ pub record AreListed (fs : List Factor) (ls : List LegValue) (q : List ℤ) : Ty
 pub are_listed : (a b : BlockedValue) (sh : List (ℕ × ℕ)) (fs : List Factor) (ls : List LegValue) (q : List ℤ) → fs ≡ a.group → ls ≡ joined sh a.legs b.legs → q ≡ sum_charge a.group a.flux b.flux → IsBlocked a → IsBlocked b → IsPair a b sh → AreListed fs ls q
 are_listed a b sh fs ls q e f g ha hb h =
     let sum : List ℤ = sum_charge a.group a.flux b.flux in
-    let ms = marks (is_first sh) (length a.legs) in
-    let ns = marks (is_second sh) (length b.legs) in
     let base : AreListed a.group (joined sh a.legs b.legs) sum = record {
-      few = h.width.legs;
-      group =
-          All-append (IsLegOf a.group) (unmarked ms a.legs) (unmarked ns b.legs) (all_unmarked (IsLegOf a.group) ms a.legs ha.charges)
-          (all_unmarked (IsLegOf a.group) ns b.legs (subst (λ gs. All (IsLegOf gs) b.legs) (sym h.group) hb.charges));
-      flux = h.flux;
-      width = h.width.tuples;
+      few = h.shapes.width.legs;
+      group = joined_legs a.group a.legs b.legs sh ha.charges (subst (λ gs. All (IsLegOf gs) b.legs) (sym h.group) hb.charges);
+      flux = h.shapes.flux;
+      width = h.shapes.width.tuples;
     } in
     subst (λ gs. AreListed gs ls q) (sym e) (subst (λ ks. AreListed a.group ks q) (sym f) (subst (λ y. AreListed a.group (joined sh a.legs b.legs) y) (sym g) base))
 

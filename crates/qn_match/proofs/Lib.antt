@@ -1,2 +1,9 @@
-mod Lefts
 mod Conditions
+pub mod Counted
+mod LeftSizes
+mod Lefts
+mod OpenLegs
+mod Paired
+mod Radix
+mod Sharing
+mod Summing

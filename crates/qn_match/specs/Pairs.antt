@@ -1,9 +1,10 @@
 -- Which blocks of two tensors are multiplied in a contraction over shared legs.
 -- Source: Singh, Pfeifer and Vidal 2010; Fishman, White and Stoudenmire 2022.
-use Rattle.std.specs.Prelude.{◌≡◌, ◌<◌, ◌==◌, ◌&&◌, ◌||◌, ℕ, Bool, true, false, cond, List, [], ◌∷◌, ◌++◌, length, map, filter, slice_index_or, All, None}
+use Rattle.std.specs.Prelude.{◌≡◌, ◌<◌, ◌==◌, ◌&&◌, ◌||◌, ℕ, ℤ, Bool, true, false, cond, List, [], ◌∷◌, ◌++◌, length, map, filter, slice_index_or, All, None}
 use Rattle.std.specs.List.{flat_map}
 use Rattle.qn_sign.specs.Positions.{positions}
 use Rattle.qn_sign.specs.Sign.{IsDistinct}
+use Rattle.qn_charge.specs.declared.factor.Factor.{Factor}
 use Rattle.qn_charge.specs.Charges.{sum_charge}
 use Rattle.qn_index.specs.Legs.{LegValue, Meets}
 use Rattle.qn_index.specs.Tuples.{admitted, IsFlux}
@@ -33,16 +34,23 @@ unmarked [] xs = []
 unmarked (m ∷ ms) [] = []
 unmarked (m ∷ ms) (x ∷ xs) = cond m (unmarked ms xs) (x ∷ unmarked ms xs)
 
--- what is left of two tensors' legs, or of two tuples of their sectors: first that of the first one
+-- what is left of the first tensor's legs, or of a tuple of their sectors, and of the second's
+abbrev pub first_left : {A : Type 0} → List (ℕ × ℕ) → List A → List A
+first_left shared xs = unmarked (marks (is_first shared) (length xs)) xs
+
+abbrev pub second_left : {A : Type 0} → List (ℕ × ℕ) → List A → List A
+second_left shared ys = unmarked (marks (is_second shared) (length ys)) ys
+
+-- what is left of both: first that of the first one
 abbrev pub joined : {A : Type 0} → List (ℕ × ℕ) → List A → List A → List A
-joined shared xs ys = unmarked (marks (is_first shared) (length xs)) xs ++ unmarked (marks (is_second shared) (length ys)) ys
+joined shared xs ys = first_left shared xs ++ second_left shared ys
 
 -- what is left of a block's tuple, in the first tensor and in the second
 abbrev pub left_of_first : List (ℕ × ℕ) → BlockValue → List ℕ
-left_of_first shared b = unmarked (marks (is_first shared) (length b.tuple)) b.tuple
+left_of_first shared b = first_left shared b.tuple
 
 abbrev pub left_of_second : List (ℕ × ℕ) → BlockValue → List ℕ
-left_of_second shared b = unmarked (marks (is_second shared) (length b.tuple)) b.tuple
+left_of_second shared b = second_left shared b.tuple
 
 -- two tuples have one sector on each shared leg
 abbrev pub agree : List (ℕ × ℕ) → List ℕ → List ℕ → Bool
@@ -73,6 +81,12 @@ task_for shared firsts seconds out = record { out = out; pairs = pairs_for share
 abbrev pub tasks : BlockedValue → BlockedValue → List (ℕ × ℕ) → List TaskValue
 tasks a b shared = map (task_for shared a.blocks b.blocks) (admitted a.group (joined shared a.legs b.legs) (sum_charge a.group a.flux b.flux))
 
+-- there are legs at these two places, and they meet
+pub record MeetAt (ks ls : List LegValue) (p : ℕ × ℕ) : Type 0 where
+  pub first : p.0 < length ks
+  pub second : p.1 < length ls
+  pub meet : Meets (slice_index_or ks p.0 no_leg) (slice_index_or ls p.1 no_leg) None
+
 -- legs that can be contracted over these pairs: each pair of legs meets, and no leg stands twice
 pub record IsShared (ks ls : List LegValue) (shared : List (ℕ × ℕ)) : Type 0 where
   pub first : All (λ p. p.0 < length ks) shared
@@ -81,9 +95,13 @@ pub record IsShared (ks ls : List LegValue) (shared : List (ℕ × ℕ)) : Type 
   pub first_once : IsDistinct ◌==◌ (map (λ p. p.0) shared)
   pub second_once : IsDistinct ◌==◌ (map (λ p. p.1) shared)
 
--- two tensors that can be contracted over these pairs of legs: the result is not too wide, and its flux is in range
+-- two shapes that can be contracted over these pairs of legs: the flux of the result is in range, and the result is not too wide
+pub record ArePaired (fs : List Factor) (ks : List LegValue) (p : List ℤ) (ls : List LegValue) (q : List ℤ) (shared : List (ℕ × ℕ)) : Type 0 where
+  pub legs : IsShared ks ls shared
+  pub flux : IsFlux fs (sum_charge fs p q)
+  pub width : IsWithinLimits fs (joined shared ks ls) (sum_charge fs p q)
+
+-- two tensors that can be contracted over these pairs of legs: they have one group, and their shapes can be contracted
 pub record IsPair (a b : BlockedValue) (shared : List (ℕ × ℕ)) : Type 0 where
   pub group : a.group ≡ b.group
-  pub legs : IsShared a.legs b.legs shared
-  pub flux : IsFlux a.group (sum_charge a.group a.flux b.flux)
-  pub width : IsWithinLimits a.group (joined shared a.legs b.legs) (sum_charge a.group a.flux b.flux)
+  pub shapes : ArePaired a.group a.legs a.flux b.legs b.flux shared

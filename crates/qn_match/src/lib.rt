@@ -1,8 +1,16 @@
 //! Which blocks of two tensors are multiplied in a contraction.
 #![tactic(auto)]
 
+mod counting;
+mod keys;
+pub mod laws;
 mod marks;
+mod pairing;
 mod scan;
 mod task;
+#[cfg(test)]
+mod tests;
 
+pub use counting::cost;
+pub use pairing::{are_paired, is_pair};
 pub use task::{Task, pairs};

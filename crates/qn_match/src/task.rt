@@ -26,7 +26,7 @@ impl Model for Task {
 }
 
 /// The legs of the result: what is left of the first tensor's, then of the second's.
-fn result_legs<const K: usize>(
+pub fn result_legs<const K: usize>(
     alloc: Global,
     firsts: &[Leg<K>],
     seconds: &[Leg<K>],

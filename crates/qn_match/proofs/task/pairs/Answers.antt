@@ -34,10 +34,10 @@ pub tasks_of-requires-clause-firsts : goal.tasks_of-requires-clause-firsts
 tasks_of-requires-clause-firsts g c = λ k d lt m p in_range.
     let f = are_long c.args.a.now c.blocks-4.result.now c.args.a.now.legs c.blocks-4.ensures refl c.known.ensures in
     let long = f.counts k d lt in
-    omega (arith, long, c.requires.pair.legs.first m p in_range)
+    omega (arith, long, c.requires.pair.shapes.legs.first m p in_range)
 
 pub tasks_of-requires-clause-seconds : goal.tasks_of-requires-clause-seconds
 tasks_of-requires-clause-seconds g c = λ k d lt m p in_range.
     let f = are_long c.args.b.now c.blocks-5.result.now c.args.b.now.legs c.blocks-5.ensures refl c.known-2.ensures in
     let long = f.counts k d lt in
-    omega (arith, long, c.requires.pair.legs.second m p in_range)
+    omega (arith, long, c.requires.pair.shapes.legs.second m p in_range)
