@@ -1,0 +1,14 @@
+pub mod Adding
+pub mod Along
+pub mod Blocks
+pub mod Charged
+pub mod Counts
+pub mod Goal
+pub mod Lines
+pub mod Opens
+pub mod Passing
+pub mod Placing
+pub mod Reals
+pub mod Striding
+pub mod Summing
+pub mod Written
