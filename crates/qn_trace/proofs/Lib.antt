@@ -1,0 +1,10 @@
+pub mod Traces
+pub mod Entries
+pub mod Sizes
+pub mod Terms
+pub mod Results
+pub mod Filling
+pub mod Blocks
+pub mod Widths
+pub mod Made
+pub mod Numbering
