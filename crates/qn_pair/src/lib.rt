@@ -1,0 +1,16 @@
+//! Two tensors contracted over shared legs.
+#![tactic(auto)]
+
+#[cfg(test)]
+mod compared;
+mod contraction;
+mod gate;
+mod paired;
+mod source;
+mod sum;
+#[cfg(test)]
+mod tests;
+
+pub use contraction::contract;
+pub use gate::{Gate, OpenGate};
+pub use qn_block::StepFault;
