@@ -1,9 +1,9 @@
 -- Sums of products of entries.
-use Rattle.std.proofs.Common.{◌≡◌, ℕ, zero, suc, ◌+◌, ◌≤◌, ◌*◌, ◌^◌, List, arith}
+use Rattle.std.proofs.Common.{ℕ, ◌≤◌, ◌*◌, ◌^◌, List, arith}
 use Rattle.std.specs.Prelude.{slice_index_or}
 use Rattle.std.proofs.lemmas.Nat.{mul-le}
-use Rattle.qn_gauss.specs.Gaussian.{Gaussian, mag, zero_g, add_g, mul_g}
-use Rattle.qn_gauss.proofs.Size.{mag-mul, mag-add}
+use Rattle.qn_gauss.specs.Gaussian.{Gaussian, mag, zero_g, mul_g}
+use Rattle.qn_gauss.proofs.Size.{mag-mul}
 use Rattle.qn_value.specs.Networks.{sum_below}
 use Rattle.qn_net.specs.Vectors.{IsSmall}
 

@@ -1,16 +1,14 @@
 -- The value of two tensors of one leg each is the sum of the products of their entries.
-use Rattle.std.proofs.Common.{◌≡◌, ℕ, zero, suc, ◌+◌, ◌/◌, ◌==◌, List, [], ◌∷◌, ◌++◌, length, cond, Bool, true, false, ◌&&◌, refl, ap, ap₂, ◌∙◌, sym, subst, arith, add-zero, zero-add}
-use Rattle.std.specs.Prelude.{slice_index_or}
+use Rattle.std.proofs.Common.{◌≡◌, ℕ, zero, suc, ◌+◌, ◌/◌, ◌==◌, List, [], ◌∷◌, ◌++◌, length, true, false, ◌&&◌, refl, ap, ap₂, ◌∙◌, sym, arith, add-zero, zero-add}
 use Rattle.std.proofs.Math.Nat.{div-one}
 use Rattle.std.proofs.lemmas.Bool.{eq-eqb, ne_eqb}
-use Rattle.qn_gauss.specs.Gaussian.{Gaussian, zero_g, one_g, add_g, mul_g}
+use Rattle.qn_gauss.specs.Gaussian.{Gaussian, one_g, add_g, mul_g}
 use Rattle.qn_gauss.proofs.Ring.{mul_one}
 use Rattle.qn_index.specs.declared.leg.Dir.{Dir}
 use Rattle.qn_index.specs.declared.leg.Dir.TheVariants.{Out, In}
-use Rattle.qn_index.specs.Legs.{LegValue}
 use Rattle.qn_value.specs.Tensors.{entry_at, rows_from, rows_of}
 use Rattle.qn_value.specs.Networks.{sum_below}
-use Rattle.qn_net.specs.Vectors.{plain_leg, only_block, vector, two_vectors, scalar}
+use Rattle.qn_net.specs.Vectors.{plain_leg, only_block, two_vectors, scalar}
 use Rattle.qn_net.proofs.Products.{entry, products}
 
 -- the row of an offset has this value

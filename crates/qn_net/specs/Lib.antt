@@ -1,1 +1,17 @@
 pub mod Vectors
+pub mod Groups
+pub mod Steps
+pub mod Plans
+pub mod Parts
+pub mod Carried
+pub mod TwistedSteps
+pub mod Passing
+pub mod NetworkValues
+pub mod Examples
+pub mod Members
+pub mod Refusals
+pub mod Operations
+pub mod FuseSteps
+pub mod Tables
+pub mod Seen
+pub mod Unique

@@ -1,6 +1,27 @@
-//! Networks.
+//! Networks of tensors: what they are, their plans, the parts of a network, and where the sums of a plan grow too large.
+//!
+//! The laws are functions with empty bodies, whose clauses are the laws.
 #![tactic(auto)]
 
+pub mod examples;
+mod fault;
+pub mod fusing;
+mod labels;
+mod lines;
+mod meeting;
+mod member;
+mod network;
+pub mod operations;
+mod order;
+pub mod passing;
 mod plain;
+pub mod plans;
+mod table;
+#[cfg(test)]
+mod tests;
+pub mod values;
 
+pub use fault::NetFault;
+pub use member::{Member, MemberRole, NetTensor, member_law};
+pub use network::Network;
 pub use plain::plain_value;

@@ -1,0 +1,13 @@
+use Rattle.std.proofs.Common.{◌<◌, negsuc, arith}
+use Rattle.qn_net.specs.Refusals.{legs_with}
+use Rattle.qn_net.proofs.LineLemmas.{step_all, stands_not}
+use Rattle.qn_net.proofs.lines.first_missing.Goals as goal
+
+pub returns-then-not-has_negative-clause-some : goal.returns-then-not-has_negative-clause-some
+returns-then-not-has_negative-clause-some c = record {
+  here = stands_not (legs_with (negsuc c.loop-n.n) c.args.table.now) c.has_negative.result c.if-not-has_negative.true c.has_negative.ensures.1;
+  before = λ j l z. let s = c.loop-n.invariant j l in absurd (omega (arith, s, z));
+}
+
+pub loop-n-preserved : goal.loop-n-preserved
+loop-n-preserved c = step_all (λ k. 0 < legs_with (negsuc k) c.args.table.now) c.loop-n.n c.loop-n.invariant (c.has_negative.ensures.0 c.if-not-has_negative.false)

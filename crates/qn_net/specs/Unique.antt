@@ -1,0 +1,13 @@
+-- Members with labels and an order have at most one first fault, and none where nothing is wrong with them.
+use Rattle.std.specs.Prelude.{◌≡◌, ◌≢◌, ℤ, Option, List}
+use Rattle.qn_net.specs.declared.fault.NetFault.{NetFault}
+use Rattle.qn_net.specs.declared.fault.NetFault.TheVariants.{Memory}
+use Rattle.qn_net.specs.Members.{LabelledMember}
+use Rattle.qn_net.specs.Refusals.{IsFaultless, IsNetFault}
+
+abbrev pub OneFaultLaw : Type 0
+OneFaultLaw =
+    (ms : List LabelledMember) (order : Option (List ℤ)) (e f : NetFault) → e ≢ Memory → f ≢ Memory → IsNetFault ms order e → IsNetFault ms order f → e ≡ f
+
+abbrev pub NoFaultLaw : Type 0
+NoFaultLaw = (ms : List LabelledMember) (order : Option (List ℤ)) (e : NetFault) → e ≢ Memory → IsFaultless ms order → IsNetFault ms order e → ⊥
