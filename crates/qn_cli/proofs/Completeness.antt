@@ -4,7 +4,7 @@ use Rattle.std.proofs.lemmas.Bool.{lt-ltb}
 use Rattle.std.specs.Prelude.{Option, IfSome}
 use Rattle.std.specs.Io.KnownBytes.{Consumes, Appends, IsAtEnd}
 use Rattle.qn_doc.specs.Faults.{fault}
-use Rattle.qn_cli.specs.declared.words.Job.{Job}
+use Rattle.qn_words.specs.declared.words.Job.{Job}
 use Rattle.qn_cli.specs.declared.status.Status.{Status}
 use Rattle.qn_cli.specs.declared.status.Status.TheVariants.{Done, NotBuilt, Usage, Malformed, Passed, ReadFault, WriteFault, Memory}
 use Rattle.qn_cli.specs.Outcomes.{Outcome, refused, unbuilt, passed, answered, most_bytes, outcome_of}

@@ -2,7 +2,7 @@
 use Rattle.std.specs.Prelude.{◌≡◌, ◌⊎◌, ℕ, ◌+◌, ◌≤◌, ◌<◌, List, length, take, Option}
 use Rattle.std.specs.Io.KnownBytes.{Keeps, Consumes, Appends, IsAtEnd}
 use Rattle.serde_json.specs.Data.{Data}
-use Rattle.qn_cli.specs.declared.words.Job.{Job}
+use Rattle.qn_words.specs.declared.words.Job.{Job}
 use Rattle.qn_cli.specs.declared.status.Status.{Status}
 use Rattle.qn_cli.specs.declared.status.Status.TheVariants.{Done, NotBuilt, Usage, Malformed, Passed, ReadFault, WriteFault, Memory}
 use Rattle.qn_cli.specs.Outcomes.{Outcome, refused, unbuilt, passed, answered, most_bytes, outcome_of_tree, outcome_of, text_of, cost_of}

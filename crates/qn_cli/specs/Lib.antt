@@ -2,5 +2,4 @@ pub mod Answers
 pub mod Lines
 pub mod Outcomes
 pub mod TwoTensors
-pub mod Words
 pub mod Statuses

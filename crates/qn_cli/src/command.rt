@@ -1,22 +1,22 @@
 //! One command, from words and bytes to a text and a status.
-ghost use Rattle.std.specs.Prelude.{◌≡◌, ℕ, ◌+◌, ◌<◌, ◌≤◌, ◌⊎◌, List, Option, Some, None, IfOk, IfErr, IfSome, map, string_bytes, length};
+ghost use Rattle.std.specs.Prelude.{◌≡◌, ℕ, ◌+◌, ◌<◌, ◌≤◌, ◌⊎◌, List, Option, Some, None, Ok, Err, false, IfOk, IfErr, IfSome, map, string_bytes, length};
 ghost use Rattle.std.specs.Io.KnownBytes.{Keeps, Consumes, Appends, IsAtEnd};
 ghost use Rattle.qn_outside.specs.Faults.{Rose};
 ghost use Rattle.qn_doc.specs.Faults.{fault};
-ghost use Rattle.qn_cli.specs.declared.words.Job.{Job};
-ghost use Rattle.qn_cli.specs.Words.{job_of};
-ghost use Rattle.qn_cli.specs.Outcomes.{outcome_of, answered, refused, unbuilt, cost_of, most_bytes};
+ghost use Rattle.qn_words.specs.declared.words.Job.{Job};
+ghost use Rattle.qn_words.specs.Words.{job_of};
+ghost use Rattle.qn_cli.specs.Outcomes.{outcome_of, answered, refused, unbuilt, is_built, built_job, cost_of, most_bytes};
 ghost use Rattle.qn_cli.specs.Answers.{Tells, IsRefusal, IsStatusOf, EndsOn};
 ghost use Rattle.qn_cli.specs.Lines.{line_of, TellsLine};
 
 use crate::contraction::contract;
-use crate::gate::Gate;
 use crate::status::Status;
 use crate::tell::tell;
-use crate::words::{Job, read_words};
 use qn_doc::{DocFault, Fault, read_tree};
 use qn_gauss::Steps;
 use qn_outside::{ReadAllFault, Sink, Source, read_all, write_all};
+use qn_pair::Gate;
+use qn_words::{Job, read_words};
 use std::alloc::Global;
 use std::sync::ledger::Ledger;
 use std::thread::Threads;
@@ -40,6 +40,7 @@ fn text_for<L: Ledger>(
     };
     match job {
         Job::Contract { workers } => contract(alloc, workers, &tree, steps),
+        _ => Err(Status::NotBuilt),
     }
 }
 
@@ -80,6 +81,13 @@ fn attempt<S: Source, O: Sink, L: Ledger>(
     }
 }
 
+/// Whether the job is built.
+fn is_built(job: Job) -> bool
+    ensures { result ≡ is_built job }
+{
+    matches!(job, Job::Contract { .. })
+}
+
 /// Does what the words ask for.
 fn obey<S: Source, O: Sink, L: Ledger>(
     alloc: Global,
@@ -88,17 +96,20 @@ fn obey<S: Source, O: Sink, L: Ledger>(
     out: &mut O,
     steps: &mut Steps<L>,
 ) -> Status
-    ensures words { job_of (map string_bytes words.now) ≡ None
+    ensures usage { (place : ℕ) → job_of (map string_bytes words.now) ≡ Err place
+        → (result ≡ Status.Usage place) × (source.new ≡ source.old) × (out.new ≡ out.old) × (steps.new ≡ steps.old) }
+    ensures not_built { (job : Job) → job_of (map string_bytes words.now) ≡ Ok job → is_built job ≡ false
         → (result ≡ Status.NotBuilt) × (source.new ≡ source.old) × (out.new ≡ out.old) × (steps.new ≡ steps.old) }
-    ensures bytes { (job : Job) → job_of (map string_bytes words.now) ≡ Some job
+    ensures bytes { (job : Job) → built_job (job_of (map string_bytes words.now)) ≡ Some job
         → (bytes : List ℕ) × EndsOn job (S.left source.old) (S.left source.new)
         (O.held out.old) (O.held out.new) steps.old steps.new result bytes }
     ensures read_fault { result ≡ Status.ReadFault → Rose (S.faults source.old) (S.faults source.new) }
     ensures write_fault { result ≡ Status.WriteFault → Rose (O.faults out.old) (O.faults out.new) }
 {
     match read_words(words) {
-        Some(job) => attempt(alloc, job, source, out, steps),
-        None => Status::NotBuilt,
+        Ok(job) if is_built(job) => attempt(alloc, job, source, out, steps),
+        Ok(_) => Status::NotBuilt,
+        Err(word) => Status::Usage { word },
     }
 }
 
@@ -117,24 +128,26 @@ pub fn run<S: Source, O: Sink, E: Sink, G: Gate, L: Ledger, R: Threads + Sync>(
     gate: &G,
     steps: &mut Steps<L>,
 ) -> Status
-    // Other words than those of a job: nothing is read or written.
-    ensures words { job_of (map string_bytes words.now) ≡ None
+    // Words that don't fit, or that ask for a job that isn't built: nothing is read or written.
+    ensures usage { (place : ℕ) → job_of (map string_bytes words.now) ≡ Err place
+        → (result ≡ Status.Usage place) × (source.new ≡ source.old) × (out.new ≡ out.old) × (steps.new ≡ steps.old) }
+    ensures not_built { (job : Job) → job_of (map string_bytes words.now) ≡ Ok job → is_built job ≡ false
         → (result ≡ Status.NotBuilt) × (source.new ≡ source.old) × (out.new ≡ out.old) × (steps.new ≡ steps.old) }
 
     // With a job some bytes came, and the call ends as the job and these bytes ask.
-    ensures bytes { (job : Job) → job_of (map string_bytes words.now) ≡ Some job
+    ensures bytes { (job : Job) → built_job (job_of (map string_bytes words.now)) ≡ Some job
         → (bytes : List ℕ) × EndsOn job (S.left source.old) (S.left source.new)
         (O.held out.old) (O.held out.new) steps.old steps.new result bytes }
 
     // Where the source tells its bytes, they have an answer and nothing failed: the whole text, or want of memory.
     ensures complete { IfSome (S.left source.old) (λ bytes. (job : Job) (text : List ℕ)
-        → job_of (map string_bytes words.now) ≡ Some job → outcome_of job bytes ≡ answered text
+        → built_job (job_of (map string_bytes words.now)) ≡ Some job → outcome_of job bytes ≡ answered text
         → ¬ Rose (S.faults source.old) (S.faults source.new) → ¬ Rose (O.faults out.old) (O.faults out.new)
         → ((result ≡ Status.Done) × Appends (O.held out.old) (O.held out.new) text) ⊎ (result ≡ Status.Memory)) }
 
     // Where the source tells its bytes and no read failed, the status is the one that they ask for, or want of memory.
     ensures exact { IfSome (S.left source.old) (λ bytes. (job : Job)
-        → job_of (map string_bytes words.now) ≡ Some job
+        → built_job (job_of (map string_bytes words.now)) ≡ Some job
         → ¬ Rose (S.faults source.old) (S.faults source.new)
         → IsStatusOf (outcome_of job bytes) result ⊎ (result ≡ Status.Memory)) }
 

@@ -4,7 +4,7 @@ ghost use Rattle.std.specs.List.{list_all};
 ghost use Rattle.serde_json.specs.Data.{no_items};
 ghost use Rattle.serde_json.specs.View.{view};
 ghost use Rattle.qn_gauss.specs.Gaussian.{mag};
-ghost use Rattle.qn_cli.specs.declared.words.Job.TheVariants.{Contract};
+ghost use Rattle.qn_words.specs.declared.words.Job.TheVariants.{Contract};
 ghost use Rattle.qn_cli.specs.Outcomes.{outcome_of_tree, cost_of_tree, answered};
 ghost use Rattle.qn_cli.specs.Answers.{IsRefusal, TellsTree};
 ghost use Rattle.qn_cli.specs.TwoTensors.{is_number, data_of, entry_of, are_contracted, scalar_tree, scalar_blocks, scalar_data, answer_text};

@@ -3,15 +3,13 @@
 
 mod command;
 mod contraction;
-mod gate;
 mod status;
 mod tell;
 #[cfg(test)]
 mod tests;
 mod two_tensors;
-mod words;
 
 pub use command::run;
-pub use gate::{Gate, OpenGate};
+pub use qn_pair::{Gate, OpenGate};
+pub use qn_words::{Job, read_words};
 pub use status::Status;
-pub use words::Job;

@@ -111,8 +111,9 @@ fn failing(failing: [u64; 3], row: Row) -> Row {
     Row { failing, ..row }
 }
 
-fn with_word(word: &'static str) -> Row {
-    let row = wanted(TWO, 8, "", NOT_BUILT);
+// Words for which nothing is read, though the first read would fail.
+fn unread(word: &'static str, exit: u8, line: &'static str) -> Row {
+    let row = wanted(TWO, exit, "", line);
     let failing = [1, 0, 0];
     Row {
         word,
@@ -135,7 +136,7 @@ fn documents() -> [Row; 9] {
     ]
 }
 
-fn failures() -> [Row; 7] {
+fn failures() -> [Row; 8] {
     [
         failing([2, 0, 0], wanted(TWO, 5, "", "qntn: read fault\n")),
         failing(
@@ -145,8 +146,9 @@ fn failures() -> [Row; 7] {
         failing([0, 0, 1], wanted(OTHER_GROUP, 8, "", "")),
         failing([0, 0, 2], wanted(OTHER_GROUP, 8, "", "qntn: not ")),
         failing([0, 0, 1], wanted(TWO, 0, ELEVEN, "")),
-        with_word("plan"),
-        with_word(""),
+        unread("plan", 8, NOT_BUILT),
+        unread("solve", 2, "qntn: usage word 1\n"),
+        unread("gen", 2, "qntn: usage word 2\n"),
     ]
 }
 
