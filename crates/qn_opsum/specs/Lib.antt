@@ -1,0 +1,3 @@
+pub mod Strings
+pub mod Refusals
+pub mod Sums

@@ -1,0 +1,15 @@
+//! Sums of products of operators on sites.
+#![tactic(auto)]
+
+mod checks;
+mod fault;
+pub mod laws;
+mod normal;
+mod sum;
+mod term;
+#[cfg(test)]
+mod tests;
+
+pub use fault::SumFault;
+pub use sum::OpSum;
+pub use term::{Normal, Term};
