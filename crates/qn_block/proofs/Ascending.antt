@@ -20,6 +20,7 @@ use Rattle.qn_block.specs.Blocked.{BlockedValue, IsBlocked, tensor_of, is_zero, 
 use Rattle.qn_block.specs.Refusals.{block_at}
 use Rattle.qn_block.proofs.Lookup.{not_below_itself, entry_nowhere}
 use Rattle.qn_block.proofs.Entries.{by_blocks, entry_out_of_range}
+use Rattle.qn_value.proofs.BlockRows.{ascending_rest}
 
 -- one block's tuple is below another's
 abbrev pub IsBelow : BlockValue → BlockValue → Type 0
@@ -81,13 +82,10 @@ zeros b o e = by (cases_lt o (length b.entries))
         test true k = k
         test false k = absurd (false≢true (sym e ∙ list_any_at (λ z. not (is_zero z)) b.entries o zero_g lt (ap not k)))
 
-tail_ascends : (b : BlockValue) (bs : List BlockValue) → AreAscending (b ∷ bs) → AreAscending bs
-tail_ascends b bs a i j lt h = a (suc i) (suc j) (omega arith) (omega arith)
-
 -- blocks of zeros count for nothing
 pub entry_filtered : (ls : List LegValue) (bs : List BlockValue) (xs : List ℕ) → AreAscending bs → entry_in ls (filter is_filled bs) xs ≡ entry_in ls bs xs
 entry_filtered ls [] xs a = refl
-entry_filtered ls (b ∷ bs) xs a = by (is_filled b) refl (same_values b.tuple (sectors_at ls xs)) refl (entry_filtered ls bs xs (tail_ascends b bs a))
+entry_filtered ls (b ∷ bs) xs a = by (is_filled b) refl (same_values b.tuple (sectors_at ls xs)) refl (entry_filtered ls bs xs (ascending_rest b bs a))
   where
     rest : List BlockValue
     rest = filter is_filled bs

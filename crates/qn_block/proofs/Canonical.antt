@@ -22,6 +22,7 @@ use Rattle.qn_block.specs.Blocked.{BlockedValue, IsBlocked, tensor_of, is_zero, 
 use Rattle.qn_block.proofs.Ascending.{IsBelow, to_pairs, zero_back}
 use Rattle.qn_block.proofs.Entries.{by_blocks, entry_of_block}
 use Rattle.qn_block.proofs.Lookup.{not_below_itself}
+use Rattle.qn_index.proofs.Admitted.{keeps}
 
 -- ---- elements of lists
 
@@ -50,16 +51,6 @@ mapped_from {X} f (x ∷ xs) y c = by (either (f x) (map f xs) y c) (mapped_from
     by : (f x ≡ y) ⊎ Contains (map f xs) y → (Contains (map f xs) y → (z : X) × Contains xs z × (f z ≡ y)) → (z : X) × Contains (x ∷ xs) z × (f z ≡ y)
     by (inl e) more = (x, here x xs, e)
     by (inr d) more = let r = more d in (r.0, later x xs r.0 r.1, r.2)
-
-kept : {X : Type 0} (p : X → Bool) (xs : List X) (x : X) → Contains xs x → p x ≡ true → Contains (filter p xs) x
-kept p [] x c h = absurd (omega (arith, c.1))
-kept p (y ∷ ys) x c h = by (p y) refl (either y ys x c) (λ d. kept p ys x d h)
-  where
-    by : (b : Bool) → p y ≡ b → (y ≡ x) ⊎ Contains ys x → (Contains ys x → Contains (filter p ys) x) → Contains (cond b (y ∷ filter p ys) (filter p ys)) x
-    by true e (inl q) more = subst (λ z. Contains (y ∷ filter p ys) z) q (here y (filter p ys))
-    by true e (inr d) more = later y (filter p ys) x (more d)
-    by false e (inl q) more = absurd (false≢true (sym e ∙ (ap p q ∙ h)))
-    by false e (inr d) more = more d
 
 kept_from : {X : Type 0} (p : X → Bool) (xs : List X) (x : X) → Contains (filter p xs) x → Contains xs x × (p x ≡ true)
 kept_from p [] x c = absurd (omega (arith, c.1))
@@ -174,7 +165,7 @@ blocks_by_entries t entry h filled same = equal_in_order IsBelow never_both t.bl
     forward b c =
         let k : IsBlock t.group t.legs t.flux b = subst (IsBlock t.group t.legs t.flux) c.2 (h.blocks c.0 b c.1) in
         let there = contained_map make ts b.tuple (listed t.group t.legs t.flux b.tuple (record { tuple = k.tuple; flux = k.flux })) in
-        kept is_filled (map make ts) b (subst (Contains (map make ts)) (sym (is_made b c)) there) (subst (λ (d : BlockValue). is_filled d ≡ true) c.2 (filled c.0 b c.1))
+        keeps is_filled (map make ts) b (subst (Contains (map make ts)) (sym (is_made b c)) there) (subst (λ (d : BlockValue). is_filled d ≡ true) c.2 (filled c.0 b c.1))
 
     backward : (b : BlockValue) → Contains (filter is_filled (map make ts)) b → Contains t.blocks b
     backward b c =

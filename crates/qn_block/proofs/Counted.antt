@@ -12,6 +12,7 @@ use Rattle.qn_index.proofs.Shapes.{nth_tuple, below_product, rank, rank_is}
 use Rattle.qn_index.proofs.Nets.{tuple_length}
 use Rattle.qn_index.proofs.Admitted.{mul_add}
 use Rattle.qn_block.specs.Combiners.{number_of_values}
+use Rattle.qn_index.proofs.Shapes.{count_suc}
 
 -- one leg more, from the last: of a product that stands still at 2^20 + 1
 capped_times : (k m d : ℕ) → 0 < d → capped k (capped k m * d) ≡ capped k (d * m)
@@ -33,11 +34,6 @@ number_suc : (ls : List LegValue) (i : ℕ) (l : LegValue) → i < length ls →
 number_suc [] i l lt = absurd (omega arith)
 number_suc (k ∷ ls) zero l lt = refl
 number_suc (k ∷ ls) (suc i) l lt = number_suc ls i l (omega arith)
-
-count_suc : (ls : List LegValue) (i : ℕ) (l : LegValue) → i < length ls → count (drop i ls) ≡ length (get_or ls i l).sectors * count (drop (suc i) ls)
-count_suc [] i l lt = absurd (omega arith)
-count_suc (k ∷ ls) zero l lt = refl
-count_suc (k ∷ ls) (suc i) l lt = count_suc ls i l (omega arith)
 
 pub number_back : (ls : List LegValue) (i : ℕ) (l : LegValue) (size d : ℕ) → 0 < i → i - 1 < length ls → l ≡ get_or ls (i - 1) l → d ≡ total l.sectors → 0 < d → size ≡ capped (2 ^ 20) (number_of_values (drop i ls)) → capped (2 ^ 20) (size * d) ≡ capped (2 ^ 20) (number_of_values (drop (i - 1) ls))
 number_back ls i l size d pos lt is e some m =

@@ -78,7 +78,7 @@ tuple_of b = b.tuple
 same_decides : (a b : List ℕ) → Decides (same_values a b) (a ≡ b)
 same_decides a b = (same_values-equal a b, same_from a b)
 
-same_flips : (a b : List ℕ) → same_values a b ≡ same_values b a
+pub same_flips : (a b : List ℕ) → same_values a b ≡ same_values b a
 same_flips [] [] = refl
 same_flips [] (y ∷ b) = refl
 same_flips (x ∷ a) [] = refl

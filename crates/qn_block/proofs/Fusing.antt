@@ -17,6 +17,7 @@ use Rattle.qn_index.proofs.Admitted.{unlisted}
 use Rattle.qn_index.proofs.Sectors.{before_le}
 use Rattle.qn_block.specs.Combiners.{StartValue, fused_charges, fused_sectors, sector_with, tuples_with, number_of_values, starts_from, fused_starts, IsFusable}
 use Rattle.qn_block.proofs.Partition.{sum_over, sum_take, charges_sum, fused_total, tuples_admitted, values_size, starts_append}
+use Rattle.qn_index.proofs.Admitted.{size_append}
 
 -- ---- refusals
 
@@ -60,13 +61,9 @@ count_below (l ∷ ls) h =
 
 -- ---- the tuples of the first charges
 
-sizes : (ls : List LegValue) (ts us : List (List ℕ)) → size_of ls (ts ++ us) ≡ size_of ls ts + size_of ls us
-sizes ls [] us = omega arith
-sizes ls (t ∷ ts) us = omega (arith, sizes ls ts us)
-
 size_flat : (ls : List LegValue) (f : List ℤ → List (List ℕ)) (cs : List (List ℤ)) → size_of ls (flat_map f cs) ≡ sum_over (λ c. size_of ls (f c)) cs
 size_flat ls f [] = refl
-size_flat ls f (c ∷ cs) = sizes ls (f c) (flat_map f cs) ∙ ap (λ n. size_of ls (f c) + n) (size_flat ls f cs)
+size_flat ls f (c ∷ cs) = size_append ls (f c) (flat_map f cs) ∙ ap (λ n. size_of ls (f c) + n) (size_flat ls f cs)
 
 flat_one : (f : List ℤ → List (List ℕ)) (cs : List (List ℤ)) (c : List ℤ) → flat_map f (cs ++ (c ∷ [])) ≡ flat_map f cs ++ f c
 flat_one f [] c = append-nil (f c)
@@ -95,7 +92,7 @@ turn fs ls arrow cs i c ts first g all few fluxes lt at listed start =
     let is : ts ≡ tuples_with fs ls arrow c = listed ∙ tuples_admitted fs ls arrow c g canonical in
     let f : List ℤ → List (List ℕ) = tuples_with fs ls arrow in
     let next : size_of ls (flat_map f (take (i + 1) cs)) ≡ first + size_of ls ts =
-    ap (size_of ls) (flat_next f cs i c lt at) ∙ (sizes ls (flat_map f (take i cs)) (f c) ∙ (ap (λ n. n + size_of ls (f c)) (sym start) ∙ ap (λ us. first + size_of ls us) (sym is))) in
+    ap (size_of ls) (flat_next f cs i c lt at) ∙ (size_append ls (flat_map f (take i cs)) (f c) ∙ (ap (λ n. n + size_of ls (f c)) (sym start) ∙ ap (λ us. first + size_of ls us) (sym is))) in
     let part : size_of ls (flat_map f (take (i + 1) cs)) ≤ sum_over (λ d. size_of ls (f d)) cs = subst (λ n. n ≤ sum_over (λ d. size_of ls (f d)) cs) (sym (size_flat ls f (take (i + 1) cs))) (sum_take (λ d. size_of ls (f d)) cs (i + 1)) in
     let whole : sum_over (λ d. size_of ls (f d)) cs ≡ number_of_values ls = ap (sum_over (λ d. size_of ls (f d))) all ∙ charges_sum fs ls arrow in
     record {
@@ -120,7 +117,7 @@ pub turned_more : (fs : List Factor) (ls : List LegValue) (arrow : Dir) (cs : Li
 turned_more fs ls arrow cs i c ts first n dim ps qs ss us t lt at old next wide sectors starts =
     let f : List ℤ → List (List ℕ) = tuples_with fs ls arrow in
     let flat : flat_map f (take (i + 1) cs) ≡ flat_map f (take i cs) ++ ts = flat_next f cs i c lt at ∙ ap (λ vs. flat_map f (take i cs) ++ vs) (sym t.is) in
-    let size : size_of ls (flat_map f (take (i + 1) cs)) ≡ size_of ls (flat_map f (take i cs)) + size_of ls ts = ap (size_of ls) flat ∙ sizes ls (flat_map f (take i cs)) ts in
+    let size : size_of ls (flat_map f (take (i + 1) cs)) ≡ size_of ls (flat_map f (take i cs)) + size_of ls ts = ap (size_of ls) flat ∙ size_append ls (flat_map f (take i cs)) ts in
     let own : dim ≡ (sector_with fs ls arrow c).dim = omega (arith, wide, next, values_size ls (f c), ap (size_of ls) t.is) in
     let made : ℕ → SectorValue = λ d. record { charge = c; dim = d } in
     record {

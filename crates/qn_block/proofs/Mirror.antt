@@ -25,6 +25,7 @@ use Rattle.qn_index.proofs.Places.{inner_length, inner_of_offset}
 use Rattle.qn_index.proofs.Admitted.{entries_step, total_over, mul_add, same_tests}
 use Rattle.qn_block.specs.Blocked.{conjugate_legs, offsets_at}
 use Rattle.qn_block.proofs.Lookup.{values_length}
+use Rattle.qn_index.proofs.Admitted.{total_same}
 
 -- ---- lists backwards
 
@@ -217,11 +218,11 @@ conjugate_count [] = refl
 conjugate_count (l ∷ ls) =
     ap count (conjugate_cons l ls) ∙ (count_snoc (conjugate_legs ls) (flipped l) ∙ (ap (λ k. k * length l.sectors) (conjugate_count ls) ∙ mul_comm (count ls) (length l.sectors)))
 
-total_zero : (ss : List ℕ) → total_over (λ s. 0) ss ≡ 0
+pub total_zero : (ss : List ℕ) → total_over (λ s. 0) ss ≡ 0
 total_zero [] = refl
 total_zero (s ∷ ss) = omega (arith, total_zero ss)
 
-total_add : (f g : ℕ → ℕ) (ss : List ℕ) → total_over (λ s. f s + g s) ss ≡ total_over f ss + total_over g ss
+pub total_add : (f g : ℕ → ℕ) (ss : List ℕ) → total_over (λ s. f s + g s) ss ≡ total_over f ss + total_over g ss
 total_add f g [] = refl
 total_add f g (s ∷ ss) = omega (arith, total_add f g ss)
 
@@ -230,13 +231,9 @@ total_times d f [] = omega arith
 total_times d f (s ∷ ss) = omega (arith, total_times d f ss, mul_add d (f s) (total_over f ss))
 
 -- a sum over two numbers, in either order
-total_swap : (f : ℕ → ℕ → ℕ) (ss us : List ℕ) → total_over (λ s. total_over (f s) us) ss ≡ total_over (λ u. total_over (λ s. f s u) ss) us
+pub total_swap : (f : ℕ → ℕ → ℕ) (ss us : List ℕ) → total_over (λ s. total_over (f s) us) ss ≡ total_over (λ u. total_over (λ s. f s u) ss) us
 total_swap f [] us = sym (total_zero us)
 total_swap f (s ∷ ss) us = ap (λ n. total_over (f s) us + n) (total_swap f ss us) ∙ sym (total_add (f s) (λ u. total_over (λ s. f s u) ss) us)
-
-total_alike : (f g : ℕ → ℕ) (ss : List ℕ) → ((s : ℕ) → f s ≡ g s) → total_over f ss ≡ total_over g ss
-total_alike f g [] h = refl
-total_alike f g (s ∷ ss) h = omega (arith, h s, total_alike f g ss h)
 
 remaining_swap : (fs : List Factor) (a b q : List ℤ) → IsGroup fs → remaining fs a (remaining fs b q) ≡ remaining fs b (remaining fs a q)
 remaining_swap fs a b q g =
@@ -260,14 +257,14 @@ entries_snoc fs (k ∷ ls) l q g h =
     let both : ℕ → ℕ → ℕ = λ s u. d s * (e u * entries fs ls (remaining fs (signed fs l u) (left s))) in
     let split : entries fs (k ∷ (ls ++ (l ∷ []))) q ≡ total_over (λ s. total_over (both s) last) here =
     entries_step fs k (ls ++ (l ∷ [])) q g h
-    ∙ total_alike (λ s. d s * entries fs (ls ++ (l ∷ [])) (left s)) (λ s. total_over (both s) last) here
+    ∙ total_same (λ s. d s * entries fs (ls ++ (l ∷ [])) (left s)) (λ s. total_over (both s) last) here
     (λ s. ap (λ n. d s * n) (entries_snoc fs ls l (left s) g (remaining_canonical fs (signed fs k s) q g)) ∙ sym (total_times (d s) (λ u. e u * entries fs ls (remaining fs (signed fs l u) (left s))) last)) in
     let join : (u : ℕ) → total_over (λ s. both s u) here ≡ e u * entries fs (k ∷ ls) (remaining fs (signed fs l u) q) = λ u.
-    total_alike (λ s. both s u) (λ s. e u * (d s * entries fs ls (remaining fs (signed fs k s) (remaining fs (signed fs l u) q)))) here
+    total_same (λ s. both s u) (λ s. e u * (d s * entries fs ls (remaining fs (signed fs k s) (remaining fs (signed fs l u) q)))) here
     (λ s. swap_factors (d s) (e u) (entries fs ls (remaining fs (signed fs l u) (left s))) ∙ ap (λ c. e u * (d s * entries fs ls c)) (remaining_swap fs (signed fs l u) (signed fs k s) q g))
     ∙ (total_times (e u) (λ s. d s * entries fs ls (remaining fs (signed fs k s) (remaining fs (signed fs l u) q))) here
     ∙ ap (λ n. e u * n) (sym (entries_step fs k ls (remaining fs (signed fs l u) q) g (remaining_canonical fs (signed fs l u) q g)))) in
-    split ∙ (total_swap both here last ∙ total_alike (λ u. total_over (λ s. both s u) here) (λ u. e u * entries fs (k ∷ ls) (remaining fs (signed fs l u) q)) last join)
+    split ∙ (total_swap both here last ∙ total_same (λ u. total_over (λ s. both s u) here) (λ u. e u * entries fs (k ∷ ls) (remaining fs (signed fs l u) q)) last join)
   where
     swap_factors : (a b c : ℕ) → a * (b * c) ≡ b * (a * c)
     swap_factors a b c = sym (mul_assoc a b c) ∙ (ap (λ m. m * c) (mul_comm a b) ∙ mul_assoc b a c)

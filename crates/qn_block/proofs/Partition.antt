@@ -24,6 +24,8 @@ use Rattle.qn_charge.specs.Charges.{IsGroup, IsCanonical, neg_charge}
 use Rattle.qn_charge.specs.Laws.{neg_of_neg}
 use Rattle.qn_index.proofs.Admitted.{mul_add, same_tests, net_canonical}
 use Rattle.qn_block.specs.Combiners.{fused_charge, fused_charges, put_by, put, ascending_once, tuples_with, values_in, sector_with, fused_sectors, number_of_values, starts_from}
+use Rattle.qn_index.proofs.Admitted.{size_append}
+use Rattle.qn_index.proofs.Admitted.{size_first}
 
 -- ---- charges ascend, and so each stands once
 
@@ -172,17 +174,6 @@ parts_sum ls f (t ∷ ts) cs a h =
     ∙ ap (λ n. block_size ls t + n) (parts_sum ls f ts cs a (λ u c. h u (suc c.0, omega (arith, c.1), c.2)))))
 
 -- ---- how many values there are
-
-size_append : (ls : List LegValue) (ts us : List (List ℕ)) → size_of ls (ts ++ us) ≡ size_of ls ts + size_of ls us
-size_append ls [] us = omega arith
-size_append ls (t ∷ ts) us = omega (arith, size_append ls ts us)
-
-size_first : (l : LegValue) (ls : List LegValue) (s : ℕ) (ts : List (List ℕ)) → size_of (l ∷ ls) (map (λ t. s ∷ t) ts) ≡ (sector_at l.sectors s).dim * size_of ls ts
-size_first l ls s [] = omega arith
-size_first l ls s (t ∷ ts) =
-    let d = (sector_at l.sectors s).dim in
-    let both : d * (block_size ls t + size_of ls ts) ≡ d * block_size ls t + d * size_of ls ts = mul_add d (block_size ls t) (size_of ls ts) in
-    omega (arith, size_first l ls s ts, both)
 
 pub all_sizes : (ls : List LegValue) → size_of ls (tuples ls) ≡ number_of_values ls
 all_sizes [] = omega arith

@@ -23,14 +23,9 @@ use Rattle.qn_value.specs.Tensors.{BlockValue, no_block, entry_in, IsBlock, AreA
 use Rattle.qn_block.specs.Blocked.{MeetFlux}
 use Rattle.qn_block.specs.Refusals.{block_at}
 use Rattle.qn_block.proofs.Lookup.{entry_found}
+use Rattle.qn_index.proofs.Places.{size_suc}
 
 -- ---- values
-
-size_suc : (ls : List LegValue) (t : List ℕ) (i : ℕ) (l : LegValue) → i < length ls → length t ≡ length ls → block_size (drop i ls) (drop i t) ≡ (sector_at (get_or ls i l).sectors (get_or t i 0)).dim * block_size (drop (suc i) ls) (drop (suc i) t)
-size_suc [] t i l lt e = absurd (omega arith)
-size_suc (k ∷ ls) [] i l lt e = absurd (omega arith)
-size_suc (k ∷ ls) (s ∷ ss) zero l lt e = refl
-size_suc (k ∷ ls) (s ∷ ss) (suc i) l lt e = size_suc ls ss i l (omega arith) (omega arith)
 
 values_suc : (ls : List LegValue) (t : List ℕ) (i o : ℕ) (l : LegValue) → i < length ls → length t ≡ length ls → values_at (drop i ls) (drop i t) o ≡ (before (get_or ls i l).sectors (get_or t i 0) + o / block_size (drop (suc i) ls) (drop (suc i) t)) ∷ values_at (drop (suc i) ls) (drop (suc i) t) (o % block_size (drop (suc i) ls) (drop (suc i) t))
 values_suc [] t i o l lt e = absurd (omega arith)

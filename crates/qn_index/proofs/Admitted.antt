@@ -80,7 +80,7 @@ admitted_step fs l ls q g h =
 
 -- ---- how many entries
 
-size_append : (ls : List LegValue) (ts us : List (List ℕ)) → size_of ls (ts ++ us) ≡ size_of ls ts + size_of ls us
+pub size_append : (ls : List LegValue) (ts us : List (List ℕ)) → size_of ls (ts ++ us) ≡ size_of ls ts + size_of ls us
 size_append ls [] us = omega arith
 size_append ls (t ∷ ts) us = omega (arith, size_append ls ts us)
 
@@ -92,7 +92,7 @@ mul_add (suc d) a b =
     let n : suc d * b ≡ d * b + b = omega arith in
     omega (arith, l, m, n, mul_add d a b)
 
-size_first : (l : LegValue) (ls : List LegValue) (s : ℕ) (ts : List (List ℕ)) → size_of (l ∷ ls) (map (λ t. s ∷ t) ts) ≡ (sector_at l.sectors s).dim * size_of ls ts
+pub size_first : (l : LegValue) (ls : List LegValue) (s : ℕ) (ts : List (List ℕ)) → size_of (l ∷ ls) (map (λ t. s ∷ t) ts) ≡ (sector_at l.sectors s).dim * size_of ls ts
 size_first l ls s [] = omega arith
 size_first l ls s (t ∷ ts) =
     let d = (sector_at l.sectors s).dim in
@@ -108,7 +108,7 @@ size_pieces : (ls : List LegValue) (f : ℕ → List (List ℕ)) (ss : List ℕ)
 size_pieces ls f [] = refl
 size_pieces ls f (s ∷ ss) = size_append ls (f s) (flat_map f ss) ∙ ap (λ n. size_of ls (f s) + n) (size_pieces ls f ss)
 
-total_same : (f g : ℕ → ℕ) (ss : List ℕ) → ((s : ℕ) → f s ≡ g s) → total_over f ss ≡ total_over g ss
+pub total_same : (f g : ℕ → ℕ) (ss : List ℕ) → ((s : ℕ) → f s ≡ g s) → total_over f ss ≡ total_over g ss
 total_same f g [] h = refl
 total_same f g (s ∷ ss) h = omega (arith, h s, total_same f g ss h)
 
@@ -119,7 +119,7 @@ entries_step fs l ls q g h =
     ∙ total_same (λ s. size_of (l ∷ ls) (map (λ t. s ∷ t) (admitted fs ls (remaining fs (signed fs l s) q)))) (λ s. (sector_at l.sectors s).dim * entries fs ls (remaining fs (signed fs l s) q)) (upward 0 (length l.sectors)) (λ s. size_first l ls s (admitted fs ls (remaining fs (signed fs l s) q))))
 
 -- each block has an entry, so no entry means no tuple
-block_some : (ls : List LegValue) (t : List ℕ) → All IsSound ls → IsTuple ls t → 0 < block_size ls t
+pub block_some : (ls : List LegValue) (t : List ℕ) → All IsSound ls → IsTuple ls t → 0 < block_size ls t
 block_some [] t h v = omega arith
 block_some (l ∷ ls) [] h v = absurd v
 block_some (l ∷ ls) (s ∷ ss) h v =
@@ -149,7 +149,7 @@ none_admitted fs ls q h e = none_of_size ls (admitted fs ls q) (λ t c. block_so
 
 -- ---- exactly the tuples that meet the flux
 
-keeps : {A : Type 0} (p : A → Bool) (xs : List A) (x : A) → Contains xs x → p x ≡ true → Contains (filter p xs) x
+pub keeps : {A : Type 0} (p : A → Bool) (xs : List A) (x : A) → Contains xs x → p x ≡ true → Contains (filter p xs) x
 keeps p [] x c h = absurd (omega (arith, c.1))
 keeps p (y ∷ ys) x c h = by (p y) refl c (λ k. keeps p ys x k h)
   where

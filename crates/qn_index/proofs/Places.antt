@@ -112,7 +112,7 @@ values_in (l ∷ ls) (s ∷ ss) o h lt =
 
 -- ---- leg by leg
 
-size_suc : (ls : List LegValue) (t : List ℕ) (i : ℕ) (l : LegValue) → i < length ls → length t ≡ length ls → block_size (drop i ls) (drop i t) ≡ (sector_at (get_or ls i l).sectors (get_or t i 0)).dim * block_size (drop (suc i) ls) (drop (suc i) t)
+pub size_suc : (ls : List LegValue) (t : List ℕ) (i : ℕ) (l : LegValue) → i < length ls → length t ≡ length ls → block_size (drop i ls) (drop i t) ≡ (sector_at (get_or ls i l).sectors (get_or t i 0)).dim * block_size (drop (suc i) ls) (drop (suc i) t)
 size_suc [] t i l lt e = absurd (omega arith)
 size_suc (k ∷ ls) [] i l lt e = absurd (omega arith)
 size_suc (k ∷ ls) (s ∷ ss) zero l lt e = refl

@@ -18,7 +18,7 @@ abbrev pub nth_tuple : List LegValue → ℕ → List ℕ
 nth_tuple [] n = []
 nth_tuple (l ∷ ls) n = (n / count ls) ∷ nth_tuple ls (n % count ls)
 
-count_suc : (ls : List LegValue) (i : ℕ) (l : LegValue) → i < length ls → count (drop i ls) ≡ length (get_or ls i l).sectors * count (drop (suc i) ls)
+pub count_suc : (ls : List LegValue) (i : ℕ) (l : LegValue) → i < length ls → count (drop i ls) ≡ length (get_or ls i l).sectors * count (drop (suc i) ls)
 count_suc [] i l lt = absurd (omega arith)
 count_suc (k ∷ ls) zero l lt = refl
 count_suc (k ∷ ls) (suc i) l lt = count_suc ls i l (omega arith)

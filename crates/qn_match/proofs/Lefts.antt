@@ -11,6 +11,7 @@ use Rattle.std.proofs.Common.{Vec, Global}
 use Rattle.std.proofs.lemmas.List.FromFn.{length-map-range_with_len}
 use Rattle.qn_value.specs.Tensors.{BlockValue}
 use Rattle.qn_match.specs.Pairs.{unmarked, marks, all_pairs}
+use Rattle.qn_value.proofs.OpenLegs.{range-last}
 
 -- some elements have been looked at, and those without a mark appended
 pub record AreLeft {A : Type 0} (ms : List Bool) (xs before out : List A) (i : ℕ) : Type 0 where
@@ -61,15 +62,11 @@ all_unmarked P (false ∷ ms) (x ∷ xs) h = All-cons P x (unmarked ms xs) (h 0 
 
 -- ---- positions
 
-range_more : (a n : ℕ) → range_with_len a (suc n) ≡ range_with_len a n ++ (a + n) ∷ []
-range_more a zero = ap (λ k. k ∷ []) (omega arith)
-range_more a (suc n) = ap (λ xs. a ∷ xs) (range_more (a + 1) n ∙ ap (λ k. range_with_len (a + 1) n ++ k ∷ []) (omega arith))
-
 -- the pairs with one first position more
 pub pairs_more : (p : (ℕ × ℕ) → Bool) (i n : ℕ) → filter p (all_pairs (i + 1) n) ≡ filter p (all_pairs i n) ++ filter p (map (λ j. (i, j)) (positions n))
 pairs_more p i n =
     let row : ℕ → List (ℕ × ℕ) = λ k. map (λ j. (k, j)) (positions n) in
-    let next : positions (i + 1) ≡ positions i ++ i ∷ [] = ap positions (add-one i) ∙ (range_more 0 i ∙ ap (λ k. positions i ++ k ∷ []) (omega arith)) in
+    let next : positions (i + 1) ≡ positions i ++ i ∷ [] = ap positions (add-one i) ∙ (range-last 0 i ∙ ap (λ k. positions i ++ k ∷ []) (omega arith)) in
     ap (λ ks. filter p (flat_map row ks)) next
     ∙ (ap (filter p) (flat_map-append row (positions i) (i ∷ []) ∙ ap (λ xs. flat_map row (positions i) ++ xs) (append-nil (row i)))
     ∙ filter-append p (flat_map row (positions i)) (row i))

@@ -1,8 +1,8 @@
-mod Conditions
+pub mod Conditions
 pub mod Counted
 mod LeftSizes
 mod Lefts
-mod OpenLegs
+pub mod OpenLegs
 mod Paired
 mod Radix
 mod Sharing

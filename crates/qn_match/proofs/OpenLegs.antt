@@ -17,7 +17,7 @@ first_coupled : (n : ℕ) (shared : List (ℕ × ℕ)) (i : ℕ) → i < n → i
 first_coupled n [] i lt = refl
 first_coupled n (p ∷ ps) i lt = ap₂ (λ b c. (i == p.0) || (b || c)) (not_same i (n + p.1) (λ e. absurd (omega arith))) (first_coupled n ps i lt)
 
-shifted : (n i k : ℕ) → (n + i == n + k) ≡ (i == k)
+pub shifted : (n i k : ℕ) → (n + i == n + k) ≡ (i == k)
 shifted n i k = by (eqb_tells i k)
   where
     by : ((i == k) ≡ true) × (i ≡ k) ⊎ ((i == k) ≡ false) × (i ≢ k) → (n + i == n + k) ≡ (i == k)

@@ -30,16 +30,14 @@ use Rattle.qn_strides.proofs.Charged.{charge_or_not}
 use Rattle.qn_pair.specs.Sources.{couples_of, IsFrame}
 use Rattle.qn_pair.specs.Steps.{result_legs, result_flux, IsEntry}
 use Rattle.qn_pair.proofs.Words.{coupling, legs_left, result_is}
+pub use Rattle.qn_match.proofs.Conditions.{are_added}
+use Rattle.qn_strides.proofs.Counts.{append_long}
 
 -- ---- the frame
 
 couples_twice : (ls : List LegValue) (cs : List (ℕ × ℕ)) → length cs + length cs ≤ length (goal_couples ls cs)
 couples_twice ls [] = omega arith
 couples_twice ls (c ∷ cs) = omega (arith, couples_twice ls cs)
-
-append_long : (xs ys : List ℕ) → length xs ≤ length (xs ++ ys)
-append_long [] ys = omega arith
-append_long (x ∷ xs) ys = omega (arith, append_long xs ys)
 
 -- there are at most half as many couples as legs
 few_twice : (ls : List LegValue) (cs : List (ℕ × ℕ)) → IsCoupling ls cs → length cs + length cs ≤ length ls
@@ -99,16 +97,6 @@ pub record AreAdded (fs : List Factor) (p q : List ℤ) : Type 0 where
   pub first : IsCanonical fs p
   pub second : IsCanonical fs q
   pub within : IsWithin (2 ^ 62) fs (sum_charge fs p q)
-
-pub are_added : (a b : BlockedValue) (ps : List (ℕ × ℕ)) (fs : List Factor) (p q : List ℤ) → fs ≡ a.group → p ≡ a.flux → q ≡ b.flux → IsBlocked a → IsBlocked b → IsPair a b ps → AreAdded fs p q
-are_added a b ps fs p q e f g ha hb h =
-    let le : 2 ^ 50 ≤ 2 ^ 62 = omega arith in
-    let base : AreAdded a.group a.flux b.flux = record {
-      first = ha.flux.canonical;
-      second = subst (λ gs. IsCanonical gs b.flux) (sym h.group) hb.flux.canonical;
-      within = within_more (2 ^ 50) (2 ^ 62) a.group (sum_charge a.group a.flux b.flux) le h.shapes.flux.within;
-    } in
-    subst (λ gs. AreAdded gs p q) (sym e) (subst (λ x. AreAdded a.group x q) (sym f) (subst (λ y. AreAdded a.group a.flux y) (sym g) base))
 
 -- what holds of the legs of both tensors holds of those that are left
 left_have : (P : LegValue → Type 0) (a b : BlockedValue) (ps : List (ℕ × ℕ)) → IsPair a b ps → All P a.legs → All P b.legs → All P (result_legs a b ps)

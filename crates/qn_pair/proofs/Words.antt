@@ -17,12 +17,10 @@ use Rattle.qn_strides.proofs.Lines.{open_at}
 use Rattle.qn_strides.proofs.Opens.{left_legs}
 use Rattle.qn_pair.specs.Sources.{couples_of}
 use Rattle.qn_pair.specs.Steps.{result_legs}
-
-all_rest : {A : Type 0} (P : A → Type 0) (x : A) (xs : List A) → All P (x ∷ xs) → All P xs
-all_rest P x xs h k d l = h (suc k) d (omega arith)
-
-all_one : {A : Type 0} (P : A → Type 0) (x : A) (xs : List A) → All P (x ∷ xs) → P x
-all_one P x xs h = h 0 x (omega arith)
+use Rattle.qn_match.proofs.OpenLegs.{shifted}
+use Rattle.qn_value.proofs.PlacedLemmas.{all_others}
+use Rattle.qn_value.proofs.PlacedLemmas.{all_first}
+use Rattle.qn_block.proofs.Dagger.{same_flips}
 
 apart : (i j : ℕ) → (i ≡ j → ⊥) → (i == j) ≡ false
 apart i j h = go (i == j) refl
@@ -38,15 +36,12 @@ coupled_first n (p ∷ ps) i l =
     ap (λ b. (i == p.0) || (b || is_coupled (couples_of n ps) i)) (apart i (n + p.1) (λ e. absurd (omega (arith, e, l))))
     ∙ ap (λ b. (i == p.0) || b) (coupled_first n ps i l)
 
-same_shift : (n i j : ℕ) → (n + i == n + j) ≡ (i == j)
-same_shift n i j = both_ways (n + i == n + j) (i == j) (λ e. let f : n + i ≡ n + j = eqb-true (n + i) (n + j) e in eq-eqb i j (omega (arith, f))) (λ e. eq-eqb (n + i) (n + j) (ap (λ k. n + k) (eqb-true i j e)))
-
 pub coupled_second : (n : ℕ) (ps : List (ℕ × ℕ)) (j : ℕ) → All (λ p. p.0 < n) ps → is_coupled (couples_of n ps) (n + j) ≡ is_second ps j
 coupled_second n [] j h = refl
 coupled_second n (p ∷ ps) j h =
-    let l : p.0 < n = all_one (λ (q : ℕ × ℕ). q.0 < n) p ps h in
+    let l : p.0 < n = all_first (λ (q : ℕ × ℕ). q.0 < n) p ps h in
     ap (λ b. b || ((n + j == n + p.1) || is_coupled (couples_of n ps) (n + j))) (apart (n + j) p.0 (λ e. absurd (omega (arith, e, l))))
-    ∙ ap₂ (λ a b. a || b) (same_shift n j p.1) (coupled_second n ps j (all_rest (λ (q : ℕ × ℕ). q.0 < n) p ps h))
+    ∙ ap₂ (λ a b. a || b) (shifted n j p.1) (coupled_second n ps j (all_others (λ (q : ℕ × ℕ). q.0 < n) p ps h))
 
 pub range_append : (a m n : ℕ) → range_with_len a (m + n) ≡ range_with_len a m ++ range_with_len (a + m) n
 range_append a zero n = ap₂ range_with_len here (zero-add n)
@@ -120,15 +115,8 @@ pub couples_agree : (t u : List ℕ) (ps : List (ℕ × ℕ)) → All (λ p. p.0
 couples_agree t u [] h = refl
 couples_agree t u (p ∷ ps) h =
     ap₂ (λ a b. a && b)
-    (ap₂ (λ v w. v == w) (get_or-append t u 0 p.0 (all_one (λ (q : ℕ × ℕ). q.0 < length t) p ps h)) (get_or-append-add t u p.1 0))
-    (couples_agree t u ps (all_rest (λ (q : ℕ × ℕ). q.0 < length t) p ps h))
-
-same_turned : (xs ys : List ℕ) → same_values xs ys ≡ same_values ys xs
-same_turned xs ys = both_ways (same_values xs ys) (same_values ys xs) (λ e. subst (λ zs. same_values zs xs ≡ true) (same_values-equal xs ys e) (itself xs)) (λ e. subst (λ zs. same_values zs ys ≡ true) (same_values-equal ys xs e) (itself ys))
-  where
-    itself : (zs : List ℕ) → same_values zs zs ≡ true
-    itself [] = refl
-    itself (z ∷ zs) = ap₂ (λ a b. a && b) (eq-eqb z z refl) (itself zs)
+    (ap₂ (λ v w. v == w) (get_or-append t u 0 p.0 (all_first (λ (q : ℕ × ℕ). q.0 < length t) p ps h)) (get_or-append-add t u p.1 0))
+    (couples_agree t u ps (all_others (λ (q : ℕ × ℕ). q.0 < length t) p ps h))
 
 -- two blocks are multiplied for a tuple where their tuples give it
 pub gives_are : (n m : ℕ) (ps : List (ℕ × ℕ)) (ss t u : List ℕ) → length t ≡ n → length u ≡ m → All (λ p. p.0 < n) ps →
@@ -138,7 +126,7 @@ gives_are n m ps ss t u e f h =
     subst (λ j. (couples_meet (couples_of j ps) (t ++ u) && same_values ss (picked 0 (t ++ u) (open_places (couples_of j ps) (j + m)))) ≡ give ps ss t u) e
     (subst (λ j. (couples_meet (couples_of (length t) ps) (t ++ u) && same_values ss (picked 0 (t ++ u) (open_places (couples_of (length t) ps) (length t + j)))) ≡ give ps ss t u) f
     (ap (λ j. couples_meet (couples_of (length t) ps) (t ++ u) && same_values ss (picked 0 (t ++ u) (open_places (couples_of (length t) ps) j))) (sym (length-append t u))
-    ∙ ap₂ (λ a b. a && b) (couples_agree t u ps k) (ap (same_values ss) (picked_joined 0 t u ps k) ∙ same_turned ss (joined ps t u))))
+    ∙ ap₂ (λ a b. a && b) (couples_agree t u ps k) (ap (same_values ss) (picked_joined 0 t u ps k) ∙ same_flips ss (joined ps t u))))
 
 -- ---- the couples
 
@@ -155,13 +143,13 @@ distinct_couples n [] h d e = tt
 distinct_couples n (p ∷ ps) h d e = (
   ap₂ (λ a b. a || b) (apart p.0 (n + p.1) (λ f. absurd (omega (arith, f, below)))) (coupled_first n ps p.0 below ∙ sym (distinct_firsts n ps p.0) ∙ d.0),
   (
-    coupled_second n ps p.1 (all_rest (λ (q : ℕ × ℕ). q.0 < n) p ps h) ∙ sym (distinct_seconds n ps p.1) ∙ e.0,
-    distinct_couples n ps (all_rest (λ (q : ℕ × ℕ). q.0 < n) p ps h) d.1 e.1,
+    coupled_second n ps p.1 (all_others (λ (q : ℕ × ℕ). q.0 < n) p ps h) ∙ sym (distinct_seconds n ps p.1) ∙ e.0,
+    distinct_couples n ps (all_others (λ (q : ℕ × ℕ). q.0 < n) p ps h) d.1 e.1,
   ),
 )
   where
     below : p.0 < n
-    below = all_one (λ (q : ℕ × ℕ). q.0 < n) p ps h
+    below = all_first (λ (q : ℕ × ℕ). q.0 < n) p ps h
 
 -- the shared legs are couples of the word
 pub coupling : (ks ls : List LegValue) (ps : List (ℕ × ℕ)) → IsShared ks ls ps → IsCoupling (ks ++ ls) (couples_of (length ks) ps)

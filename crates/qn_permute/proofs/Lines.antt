@@ -14,6 +14,7 @@ use Rattle.qn_index.proofs.Nets.{tuple_length}
 use Rattle.qn_gauss.specs.Gaussian.{Gaussian}
 use Rattle.qn_permute.specs.declared.axis.Axis.{Axis}
 use Rattle.qn_permute.specs.Axes.{no_axis, axes, places, reach}
+use Rattle.qn_index.proofs.Places.{size_suc}
 
 -- how far the place at these offsets is from the first
 abbrev pub along : List Axis → List ℕ → ℕ
@@ -113,12 +114,6 @@ pub axes_length : (ls : List LegValue) (t : List ℕ) → IsTuple ls t → lengt
 axes_length [] t h = refl
 axes_length (l ∷ ls) [] h = absurd h
 axes_length (l ∷ ls) (s ∷ ss) h = ap suc (axes_length ls ss h.1)
-
-size_suc : (ls : List LegValue) (t : List ℕ) (i : ℕ) (l : LegValue) → i < length ls → length t ≡ length ls → block_size (drop i ls) (drop i t) ≡ (sector_at (get_or ls i l).sectors (get_or t i 0)).dim * block_size (drop (suc i) ls) (drop (suc i) t)
-size_suc [] t i l lt e = absurd (omega arith)
-size_suc (k ∷ ls) [] i l lt e = absurd (omega arith)
-size_suc (k ∷ ls) (s ∷ ss) zero l lt e = refl
-size_suc (k ∷ ls) (s ∷ ss) (suc i) l lt e = size_suc ls ss i l (omega arith) (omega arith)
 
 -- one axis more
 axes_suc : (ls : List LegValue) (t : List ℕ) (i : ℕ) (l : LegValue) → IsTuple ls t → i < length ls → axes (drop i ls) (drop i t) ≡ record { len = (sector_at (get_or ls i l).sectors (get_or t i 0)).dim; stride = block_size (drop (suc i) ls) (drop (suc i) t) } ∷ axes (drop (suc i) ls) (drop (suc i) t)

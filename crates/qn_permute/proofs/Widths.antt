@@ -11,6 +11,10 @@ use Rattle.qn_index.specs.Extents.{entries}
 use Rattle.qn_index.specs.Weights.{remaining}
 use Rattle.qn_index.proofs.Admitted.{total_over, entries_step, mul_add}
 use Rattle.qn_permute.proofs.Columns.{swap_times, swap_charges}
+use Rattle.qn_index.proofs.Admitted.{total_same}
+use Rattle.qn_block.proofs.Mirror.{total_zero}
+use Rattle.qn_block.proofs.Mirror.{total_add}
+use Rattle.qn_block.proofs.Mirror.{total_swap}
 
 pub count_perm : {ks ms : List LegValue} → Perm ks ms → count ks ≡ count ms
 count_perm none = refl
@@ -20,26 +24,9 @@ count_perm (then_by p q) = count_perm p ∙ count_perm q
 
 -- ---- sums
 
-total_alike : (f g : ℕ → ℕ) (ss : List ℕ) → ((s : ℕ) → f s ≡ g s) → total_over f ss ≡ total_over g ss
-total_alike f g [] h = refl
-total_alike f g (s ∷ ss) h = ap₂ (λ a b. a + b) (h s) (total_alike f g ss h)
-
-total_none : (ss : List ℕ) → total_over (λ s. 0) ss ≡ 0
-total_none [] = refl
-total_none (s ∷ ss) = omega (arith, total_none ss)
-
 total_times : (d : ℕ) (f : ℕ → ℕ) (ss : List ℕ) → d * total_over f ss ≡ total_over (λ s. d * f s) ss
 total_times d f [] = omega arith
 total_times d f (s ∷ ss) = mul_add d (f s) (total_over f ss) ∙ ap (λ n. d * f s + n) (total_times d f ss)
-
-total_both : (f g : ℕ → ℕ) (ss : List ℕ) → total_over (λ s. f s + g s) ss ≡ total_over f ss + total_over g ss
-total_both f g [] = omega arith
-total_both f g (s ∷ ss) = omega (arith, total_both f g ss)
-
--- a sum over pairs in either order
-total_swap : (f : ℕ → ℕ → ℕ) (ss us : List ℕ) → total_over (λ s. total_over (f s) us) ss ≡ total_over (λ u. total_over (λ s. f s u) ss) us
-total_swap f [] us = sym (total_none us)
-total_swap f (s ∷ ss) us = ap (λ n. total_over (f s) us + n) (total_swap f ss us) ∙ sym (total_both (f s) (λ u. total_over (λ k. f k u) ss) us)
 
 -- ---- entries
 
@@ -48,7 +35,7 @@ abbrev over : LegValue → (ℕ → ℕ) → ℕ
 over l f = total_over (λ s. (sector_at l.sectors s).dim * f s) (upward 0 (length l.sectors))
 
 over_alike : (l : LegValue) (f g : ℕ → ℕ) → ((s : ℕ) → f s ≡ g s) → over l f ≡ over l g
-over_alike l f g h = total_alike (λ s. (sector_at l.sectors s).dim * f s) (λ s. (sector_at l.sectors s).dim * g s) (upward 0 (length l.sectors)) (λ s. ap (λ n. (sector_at l.sectors s).dim * n) (h s))
+over_alike l f g h = total_same (λ s. (sector_at l.sectors s).dim * f s) (λ s. (sector_at l.sectors s).dim * g s) (upward 0 (length l.sectors)) (λ s. ap (λ n. (sector_at l.sectors s).dim * n) (h s))
 
 over_swap : (k l : LegValue) (f : ℕ → ℕ → ℕ) → over k (λ s. over l (f s)) ≡ over l (λ u. over k (λ s. f s u))
 over_swap k l f =
@@ -56,10 +43,10 @@ over_swap k l f =
     let us : List ℕ = upward 0 (length l.sectors) in
     let a : ℕ → ℕ = λ s. (sector_at k.sectors s).dim in
     let b : ℕ → ℕ = λ u. (sector_at l.sectors u).dim in
-    total_alike (λ s. a s * total_over (λ u. b u * f s u) us) (λ s. total_over (λ u. a s * (b u * f s u)) us) ss (λ s. total_times (a s) (λ u. b u * f s u) us)
+    total_same (λ s. a s * total_over (λ u. b u * f s u) us) (λ s. total_over (λ u. a s * (b u * f s u)) us) ss (λ s. total_times (a s) (λ u. b u * f s u) us)
     ∙ (total_swap (λ s u. a s * (b u * f s u)) ss us
-    ∙ total_alike (λ u. total_over (λ s. a s * (b u * f s u)) ss) (λ u. b u * total_over (λ s. a s * f s u) ss) us
-    (λ u. total_alike (λ s. a s * (b u * f s u)) (λ s. b u * (a s * f s u)) ss (λ s. swap_times (a s) (b u) (f s u)) ∙ sym (total_times (b u) (λ s. a s * f s u) ss)))
+    ∙ total_same (λ u. total_over (λ s. a s * (b u * f s u)) ss) (λ u. b u * total_over (λ s. a s * f s u) ss) us
+    (λ u. total_same (λ s. a s * (b u * f s u)) (λ s. b u * (a s * f s u)) ss (λ s. swap_times (a s) (b u) (f s u)) ∙ sym (total_times (b u) (λ s. a s * f s u) ss)))
 
 pub entries_perm : (fs : List Factor) (q : List ℤ) {ks ms : List LegValue} → IsGroup fs → IsCanonical fs q → Perm ks ms → entries fs ks q ≡ entries fs ms q
 entries_perm fs q g h none = refl

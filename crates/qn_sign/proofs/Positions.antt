@@ -59,7 +59,7 @@ positions_distinct a (suc n) = (go (is_in ◌==◌ a (range_with_len (a + 1) n))
     go false e = refl
     go true e = let r : (a + 1 ≤ a) × (a < a + 1 + n) = within_positions (a + 1) n a e in absurd (omega (arith, r.0))
 
-length-perm : {E : Type 0} {xs ys : List E} → Perm xs ys → length xs ≡ length ys
+pub length-perm : {E : Type 0} {xs ys : List E} → Perm xs ys → length xs ≡ length ys
 length-perm none = refl
 length-perm (keep p) = ap suc (length-perm p)
 length-perm swap = refl

@@ -14,7 +14,7 @@ couples_long : (ls : List LegValue) (cs : List (ℕ × ℕ)) → length cs ≤ l
 couples_long ls [] = omega arith
 couples_long ls (c ∷ cs) = omega (arith, couples_long ls cs)
 
-append_long : (xs ys : List ℕ) → length xs ≤ length (xs ++ ys)
+pub append_long : (xs ys : List ℕ) → length xs ≤ length (xs ++ ys)
 append_long [] ys = omega arith
 append_long (x ∷ xs) ys = omega (arith, append_long xs ys)
 

@@ -24,6 +24,12 @@ use Rattle.qn_value.proofs.Sums.{perm-map}
 use Rattle.qn_value.proofs.CoupleLemmas.{couple_at, stands_in, couple_passes, one_couple, open_before, open_step, open_grows}
 use Rattle.qn_value.proofs.CoupledLemmas.{leg_at, slot_at, well_labelled}
 use Rattle.qn_strides.specs.Strides.{in_place, out_place, goal_couples, open_places, goal_places}
+use Rattle.qn_value.proofs.CoupledLemmas.{to_range}
+pub use Rattle.qn_value.proofs.CoupledLemmas.{coupled_label}
+pub use Rattle.qn_value.proofs.CoupledLemmas.{open_label}
+use Rattle.qn_value.proofs.LabelLemmas.{perm_place}
+use Rattle.qn_value.proofs.LabelLemmas.{perm_order}
+use Rattle.qn_value.proofs.CoupleLemmas.{not_here}
 
 -- ---- lists of numbers
 
@@ -92,21 +98,6 @@ is_open cs (x ∷ xs) i h = go (is_coupled cs x) refl (is_open cs xs i) h
         by (inr f) = ih f
 
 -- ---- the couples
-
-not_here : (c : ℕ × ℕ) (cs : List (ℕ × ℕ)) (j : ℕ) → IsDistinct ◌==◌ (places_of (c ∷ cs)) → is_coupled cs j ≡ true → ((j == c.0) || (j == c.1)) ≡ false
-not_here c cs j d k = go (j == c.0) refl (j == c.1) refl
-  where
-    second : (a b : Bool) → (a || b) ≡ false → b ≡ false
-    second a b e = grind arith
-
-    go : (a : Bool) → (j == c.0) ≡ a → (b : Bool) → (j == c.1) ≡ b → (a || b) ≡ false
-    go true e b f =
-        let at : is_in ◌==◌ c.0 (places_of cs) ≡ true = subst (λ x. is_in ◌==◌ x (places_of cs) ≡ true) (eqb-true j c.0 e) k in
-        absurd (false≢true (sym (second (c.0 == c.1) (is_in ◌==◌ c.0 (places_of cs)) d.0) ∙ at))
-    go false e true f =
-        let at : is_in ◌==◌ c.1 (places_of cs) ≡ true = subst (λ x. is_in ◌==◌ x (places_of cs) ≡ true) (eqb-true j c.1 f) k in
-        absurd (false≢true (sym d.1.0 ∙ at))
-    go false e false f = refl
 
 pub perm_couples : (ls : List LegValue) (cs : List (ℕ × ℕ)) → Perm (places_of cs) (goal_couples ls cs)
 perm_couples ls [] = none
@@ -241,12 +232,6 @@ pairs_at n ls (c ∷ cs) label h =
     let e : AreEnds n ls c label = numbered_ends n ls c cs label h in
     λ i. e.first i ∷ e.second i ∷ pairs_at (suc n) ls cs label (numbered_rest n ls c cs label h) i
 
-pub coupled_label : (cs : List (ℕ × ℕ)) (i : ℕ) → is_coupled cs i ≡ true → label_at cs i ≡ pos (couple_number 1 cs i)
-coupled_label cs i h = ap (λ b. cond b (pos (couple_number 1 cs i)) (negsuc (open_before cs i))) h
-
-pub open_label : (cs : List (ℕ × ℕ)) (i : ℕ) → is_coupled cs i ≡ false → label_at cs i ≡ negsuc (open_before cs i)
-open_label cs i h = ap (λ b. cond b (pos (couple_number 1 cs i)) (negsuc (open_before cs i))) h
-
 pub numbered : (ls : List LegValue) (cs : List (ℕ × ℕ)) → IsCoupling ls cs → IsNumbered 1 ls cs (label_at cs)
 numbered ls cs good = record { meet = good.meet; distinct = good.distinct; labels = coupled_label cs }
 
@@ -257,16 +242,6 @@ end_at ls cs i = end_with ls (label_at cs) i
 
 abbrev pub all_ends : List LegValue → List (ℕ × ℕ) → List End
 all_ends ls cs = map (end_at ls cs) (positions (length ls))
-
-to_range : (f : ℕ → End) (a n i : ℕ) → a ≤ i → i < a + n → is_in same_end (f i) (map f (range_with_len a n)) ≡ true
-to_range f a zero i h k = absurd (omega arith)
-to_range f a (suc n) i h k = go (i == a) refl (λ l. to_range f (a + 1) n i l (omega arith))
-  where
-    go : (b : Bool) → (i == a) ≡ b → (a + 1 ≤ i → is_in same_end (f i) (map f (range_with_len (a + 1) n)) ≡ true) →
-        (same_end (f i) (f a) || is_in same_end (f i) (map f (range_with_len (a + 1) n))) ≡ true
-    go true e ih =
-        or_left (same_end (f i) (f a)) (is_in same_end (f i) (map f (range_with_len (a + 1) n))) (subst (λ k. same_end (f i) (f k) ≡ true) (eqb-true i a e) (end_test.itself (f i)))
-    go false e ih = or_right (same_end (f i) (f a)) (is_in same_end (f i) (map f (range_with_len (a + 1) n))) (ih (grind (arith, nat_tests)))
 
 pub end_there : (ls : List LegValue) (cs : List (ℕ × ℕ)) (i : ℕ) → i < length ls → is_in same_end (end_at ls cs i) (all_ends ls cs) ≡ true
 end_there ls cs i h = to_range (end_at ls cs) 0 (length ls) i (omega arith) (omega arith)
@@ -320,18 +295,6 @@ pub opens_at : (ls : List LegValue) (cs : List (ℕ × ℕ)) → IsCoupling ls c
 opens_at ls cs good = opens_upto ls cs good (length ls) (omega arith)
 
 -- ---- the bonds of the labels are those of the couples
-
-perm_place : (b : Bond) (bs : List Bond) → Perm (b ∷ bs) (place_bond b bs)
-perm_place b [] = perm-refl (b ∷ [])
-perm_place b (c ∷ cs) = go (int_lt b.label c.label) (perm_place b cs)
-  where
-    go : (t : Bool) → Perm (b ∷ cs) (place_bond b cs) → Perm (b ∷ c ∷ cs) (cond t (b ∷ c ∷ cs) (c ∷ place_bond b cs))
-    go true ih = perm-refl (b ∷ c ∷ cs)
-    go false ih = then_by swap (keep ih)
-
-perm_order : (bs : List Bond) → Perm bs (in_label_order bs)
-perm_order [] = none
-perm_order (b ∷ bs) = then_by (keep (perm_order bs)) (perm_place b (in_label_order bs))
 
 module _ (ls : List LegValue) (cs : List (ℕ × ℕ)) (good : IsCoupling ls cs) where
   abbrev bond_of : ℕ → Bond

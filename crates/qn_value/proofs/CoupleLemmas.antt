@@ -81,7 +81,7 @@ in_couple c i h = go (i == c.0)
     go false = or_left (c.0 == c.0) (c.0 == c.1) (eq-eqb c.0 c.0 refl)
 
 -- a place of other couples is not in this one
-not_here : (c : ℕ × ℕ) (cs : List (ℕ × ℕ)) (j : ℕ) → IsDistinct ◌==◌ (places_of (c ∷ cs)) → is_coupled cs j ≡ true → ((j == c.0) || (j == c.1)) ≡ false
+pub not_here : (c : ℕ × ℕ) (cs : List (ℕ × ℕ)) (j : ℕ) → IsDistinct ◌==◌ (places_of (c ∷ cs)) → is_coupled cs j ≡ true → ((j == c.0) || (j == c.1)) ≡ false
 not_here c cs j d k = go (j == c.0) refl (j == c.1) refl
   where
     second : (a b : Bool) → (a || b) ≡ false → b ≡ false

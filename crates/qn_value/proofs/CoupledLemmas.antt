@@ -76,7 +76,7 @@ in_range f a (suc n) e h = go (same_end e (f a)) refl h (in_range f (a + 1) n e)
     go true q k ih = (a, omega arith, omega arith, end_test.equal e (f a) q)
     go false q k ih = let r : (i : ℕ) × (a + 1 ≤ i) × (i < a + 1 + n) × (e ≡ f i) = ih k in (r.0, omega (arith, r.1), omega (arith, r.2), r.3)
 
-to_range : (f : ℕ → End) (a n i : ℕ) → a ≤ i → i < a + n → is_in same_end (f i) (map f (range_with_len a n)) ≡ true
+pub to_range : (f : ℕ → End) (a n i : ℕ) → a ≤ i → i < a + n → is_in same_end (f i) (map f (range_with_len a n)) ≡ true
 to_range f a zero i h k = absurd (omega arith)
 to_range f a (suc n) i h k = go (i == a) refl (λ l. to_range f (a + 1) n i l (omega arith))
   where
@@ -106,13 +106,13 @@ coupled_label cs i h = ap (λ b. cond b (pos (couple_number 1 cs i)) (negsuc (op
 pub open_label : (cs : List (ℕ × ℕ)) (i : ℕ) → is_coupled cs i ≡ false → label_at cs i ≡ negsuc (open_before cs i)
 open_label cs i h = ap (λ b. cond b (pos (couple_number 1 cs i)) (negsuc (open_before cs i))) h
 
-pos_equal : (m n : ℕ) → pos m ≡ pos n → m ≡ n
+pub pos_equal : (m n : ℕ) → pos m ≡ pos n → m ≡ n
 pos_equal m n e = cc e
 
-negsuc_equal : (m n : ℕ) → negsuc m ≡ negsuc n → m ≡ n
+pub negsuc_equal : (m n : ℕ) → negsuc m ≡ negsuc n → m ≡ n
 negsuc_equal m n e = cc e
 
-pos_apart : (m n : ℕ) → pos m ≡ negsuc n → ⊥
+pub pos_apart : (m n : ℕ) → pos m ≡ negsuc n → ⊥
 pos_apart m n e = absurd (cc e)
 
 opposite : (d f : Dir) → d ≢ f → is_inward d ≡ not (is_inward f)

@@ -21,7 +21,7 @@ out_end l = record { label = l; inward = false }
 
 -- the word of the nodes is the list of the ends
 
-word_ends : (ps : List Placed) → word (map node_of ps) ≡ ends (slots ps)
+pub word_ends : (ps : List Placed) → word (map node_of ps) ≡ ends (slots ps)
 word_ends [] = refl
 word_ends (p ∷ ps) =
     ap (λ es. ends (slots_of p.tensor.legs p.labels) ++ es) (word_ends ps)
@@ -29,7 +29,7 @@ word_ends (p ∷ ps) =
 
 -- the order of the bonds
 
-perm_place : (b : Bond) (bs : List Bond) → Perm (b ∷ bs) (place_bond b bs)
+pub perm_place : (b : Bond) (bs : List Bond) → Perm (b ∷ bs) (place_bond b bs)
 perm_place b [] = perm-refl (b ∷ [])
 perm_place b (c ∷ cs) = go (int_lt b.label c.label) (perm_place b cs)
   where
@@ -37,7 +37,7 @@ perm_place b (c ∷ cs) = go (int_lt b.label c.label) (perm_place b cs)
     go true ih = perm-refl (b ∷ c ∷ cs)
     go false ih = then_by swap (keep ih)
 
-perm_order : (bs : List Bond) → Perm bs (in_label_order bs)
+pub perm_order : (bs : List Bond) → Perm bs (in_label_order bs)
 perm_order [] = none
 perm_order (b ∷ bs) = then_by (keep (perm_order bs)) (perm_place b (in_label_order bs))
 

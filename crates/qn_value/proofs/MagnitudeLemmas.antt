@@ -98,7 +98,7 @@ first_kept size ls keep (t ∷ ts) h = go (keep t) refl (first_kept size ls keep
 -- a sum of which one summand counts
 
 -- numbers below n, of which those that are not k give 0
-below_one : (n k bound : ℕ) (f : ℕ → ℕ) → ((v : ℕ) → f v ≤ bound) → ((v : ℕ) → (v == k) ≡ false → f v ≡ 0) → total_below n f ≤ bound
+pub below_one : (n k bound : ℕ) (f : ℕ → ℕ) → ((v : ℕ) → f v ≤ bound) → ((v : ℕ) → (v == k) ≡ false → f v ≡ 0) → total_below n f ≤ bound
 below_one zero k bound f h z = omega arith
 below_one (suc n) k bound f h z = go (n == k) refl (below_one n k bound f h z)
   where

@@ -10,6 +10,11 @@ use Rattle.qn_sign.proofs.Parity.{is_odd-add, is_odd-count, tally, pairs, xor_as
 use Rattle.qn_sign.proofs.SignLaws.{turned, pairs-same}
 use Rattle.qn_gauss.proofs.Ring.{mul_comm, mul_assoc, mul_one, mul_neg, neg_neg, neg_zero}
 use Rattle.qn_value.proofs.Sums.{label_test, sums-scale, IsSteady, DependsOn, Meets}
+use Rattle.qn_gauss.proofs.Ring.{one_mul}
+pub use Rattle.qn_gauss.proofs.Ring.{mul_swap}
+pub use Rattle.qn_gauss.proofs.Signs.{signed-zero}
+pub use Rattle.qn_gauss.proofs.Signs.{mul-signed}
+pub use Rattle.qn_gauss.proofs.Signs.{signed-mul}
 
 -- the test of ends
 
@@ -43,9 +48,6 @@ pub word-append : (ns ms : List Node) → word (ns ++ ms) ≡ word ns ++ word ms
 word-append [] ms = refl
 word-append (n ∷ ns) ms = ap (λ w. n.ends ++ w) (word-append ns ms) ∙ sym (append_assoc n.ends (word ns) (word ms))
 
-one_mul : (x : Gaussian) → mul_g one_g x ≡ x
-one_mul x = mul_comm one_g x ∙ mul_one x
-
 pub product-append : (ns ms : List Node) (a : Assignment) → product (ns ++ ms) a ≡ mul_g (product ns a) (product ms a)
 product-append [] ms a = sym (one_mul (product ms a))
 product-append (n ∷ ns) ms a =
@@ -57,20 +59,6 @@ pub signed-xor : (b c : Bool) (x : Gaussian) → signed (xor b c) x ≡ signed b
 signed-xor true true x = sym (neg_neg x)
 signed-xor true false x = refl
 signed-xor false c x = refl
-
-pub mul-signed : (b : Bool) (x y : Gaussian) → mul_g x (signed b y) ≡ signed b (mul_g x y)
-mul-signed true x y = mul_neg x y
-mul-signed false x y = refl
-
-pub signed-mul : (b : Bool) (x y : Gaussian) → mul_g (signed b x) y ≡ signed b (mul_g x y)
-signed-mul b x y = mul_comm (signed b x) y ∙ mul-signed b y x ∙ ap (signed b) (mul_comm y x)
-
-pub signed-zero : (b : Bool) → signed b zero_g ≡ zero_g
-signed-zero true = neg_zero
-signed-zero false = refl
-
-pub mul_swap : (x y z : Gaussian) → mul_g x (mul_g y z) ≡ mul_g y (mul_g x z)
-mul_swap x y z = sym (mul_assoc x y z) ∙ ap (λ w. mul_g w z) (mul_comm x y) ∙ mul_assoc y x z
 
 -- a sign that all summands share
 pub sums-signed : (b : Bool) (bs : List Bond) (f : Assignment → Gaussian) (a : Assignment) → sums bs (λ c. signed b (f c)) a ≡ signed b (sums bs f a)

@@ -30,7 +30,7 @@ use Rattle.qn_value.proofs.PlacedLemmas.{HaveSectorsOn, sectors_fit, all_conserv
 use Rattle.qn_value.proofs.CoupleLemmas.{open_before, open_step, open_grows}
 use Rattle.qn_value.proofs.CoupledLemmas.{word_of, leg_at, slot_at, slots_coupled, open_label, end_at, all_ends, there, open_once, open_length, coupled_law}
 
-range-last : (a n : ℕ) → range_with_len a (suc n) ≡ range_with_len a n ++ (a + n) ∷ []
+pub range-last : (a n : ℕ) → range_with_len a (suc n) ≡ range_with_len a n ++ (a + n) ∷ []
 range-last a zero = ap (λ k. k ∷ []) plain
   where
     plain : a ≡ a + 0

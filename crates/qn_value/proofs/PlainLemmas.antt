@@ -14,9 +14,7 @@ use Rattle.std.proofs.Math.Nat.{mul-le-mul_left}
 use Rattle.qn_value.proofs.MagnitudeLemmas.{mag_zero, mag_signed}
 use Rattle.qn_gauss.proofs.Size.{mag-mul, mag-add}
 use Rattle.qn_value.proofs.NumberingLemmas.{mag_some, rest_passes, sums_numbered, total_numbered, total_grows}
-
-xor_is : (p o : Bool) → not (beq p o) ≡ xor p o
-xor_is p o = grind arith
+use Rattle.qn_charge.proofs.Parts.{xor_is}
 
 pub order_step : {E : Type 0} (same : E → E → Bool) (odd : E → Bool) (word : List E) (x : E) (later goal : List E) (p o : Bool) → goal ≡ x ∷ later →
     p ≡ is_odd (count_by (λ y. odd x && odd y && stands_before same word y x) later) → o ≡ exchange_sign same odd word later →

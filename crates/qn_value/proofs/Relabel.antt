@@ -11,6 +11,7 @@ use Rattle.qn_sign.proofs.Parity.{tally, pairs}
 use Rattle.qn_sign.proofs.SignLaws.{turned, pairs-same}
 use Rattle.qn_value.proofs.Sums.{label_test}
 use Rattle.qn_value.proofs.NetLaws.{end_test, sign-pairs}
+use Rattle.qn_sign.proofs.Order.{before-map}
 
 tally-map : {A B : Type 0} (f : A → B) (p : B → Bool) (xs : List A) → tally p (map f xs) ≡ tally (λ x. p (f x)) xs
 tally-map f p [] = refl
@@ -19,18 +20,6 @@ tally-map f p (x ∷ xs) = ap (xor (p (f x))) (tally-map f p xs)
 pairs-map : {A B : Type 0} (f : A → B) (r : B → B → Bool) (xs : List A) → pairs r (map f xs) ≡ pairs (λ x y. r (f x) (f y)) xs
 pairs-map f r [] = refl
 pairs-map f r (x ∷ xs) = ap₂ xor (tally-map f (r (f x)) xs) (pairs-map f r xs)
-
-before-map : {A B : Type 0} (same : A → A → Bool) (same' : B → B → Bool) (f : A → B) (x y : A) (w : List A) → IsTest same →
-    ((z : A) → is_in same z w ≡ true → same' (f x) (f z) ≡ same x z) → ((z : A) → is_in same z w ≡ true → same' (f y) (f z) ≡ same y z) →
-    stands_before same' (map f w) (f x) (f y) ≡ stands_before same w x y
-before-map same same' f x y [] law hx hy = refl
-before-map same same' f x y (z ∷ w) law hx hy =
-    let here : is_in same z (z ∷ w) ≡ true = or_left (same z z) (is_in same z w) (law.itself z) in
-    step (same' (f y) (f z)) (same y z) (same' (f x) (f z)) (same x z) _ _ (hy z here) (hx z here)
-    (before-map same same' f x y w law (λ v k. hx v (or_right (same v z) (is_in same v w) k)) (λ v k. hy v (or_right (same v z) (is_in same v w) k)))
-  where
-    step : (p q p' q' r s : Bool) → p ≡ q → p' ≡ q' → r ≡ s → (not p && (p' || r)) ≡ (not q && (q' || s))
-    step p q p' q' r s e g h = λ i. not (e i) && (g i || h i)
 
 pub word-map : (f : ℤ → ℤ) (ns : List Node) → word (map (relabel_node f) ns) ≡ map (relabel f) (word ns)
 word-map f [] = refl

@@ -11,21 +11,10 @@ use Rattle.qn_sign.proofs.Order.{apart_by, is_in-append, is_in-perm, distinct-pe
 use Rattle.qn_value.proofs.Sums.{label_test, sum_below-add, sum_below-zero, DependsOn}
 use Rattle.qn_value.proofs.NetLaws.{end_test, signed-zero, sign-agree, ends-labels, at_values-values, values-agree, labels_distinct}
 use Rattle.qn_value.proofs.Values.{both_ways, same_values-equal}
-
-pub zero_add : (x : Gaussian) → add_g zero_g x ≡ x
-zero_add x = add_comm zero_g x ∙ add_zero x
-
-pub zero_mul : (x : Gaussian) → mul_g zero_g x ≡ zero_g
-zero_mul x = mul_comm zero_g x ∙ mul_zero x
-
-pub mul_add_right : (x y z : Gaussian) → mul_g (add_g x y) z ≡ add_g (mul_g x z) (mul_g y z)
-mul_add_right x y z = mul_comm (add_g x y) z ∙ mul_add z x y ∙ ap₂ add_g (mul_comm z x) (mul_comm z y)
-
-pub signed-add : (b : Bool) (x y : Gaussian) → signed b (add_g x y) ≡ add_g (signed b x) (signed b y)
-signed-add true x y =
-    ap neg_g (sym (mul_one (add_g x y))) ∙ sym (mul_neg (add_g x y) one_g) ∙ mul_add_right x y (neg_g one_g)
-    ∙ ap₂ add_g (mul_neg x one_g ∙ ap neg_g (mul_one x)) (mul_neg y one_g ∙ ap neg_g (mul_one y))
-signed-add false x y = refl
+pub use Rattle.qn_gauss.proofs.Ring.{zero_add}
+pub use Rattle.qn_gauss.proofs.Ring.{zero_mul}
+pub use Rattle.qn_gauss.proofs.Ring.{mul_add_right}
+pub use Rattle.qn_gauss.proofs.Signs.{signed-add}
 
 -- sums over lists
 

@@ -9,7 +9,7 @@ use Rattle.qn_value.specs.Networks.{End, Bond, Assignment, assign, in_end, out_e
 use Rattle.qn_sign.proofs.Order.{distinct-perm}
 use Rattle.qn_gauss.proofs.Ring.{add_comm, add_assoc, add_zero, mul_zero, mul_add}
 
-add_middle : (a b c d : Gaussian) → add_g (add_g a b) (add_g c d) ≡ add_g (add_g a c) (add_g b d)
+pub add_middle : (a b c d : Gaussian) → add_g (add_g a b) (add_g c d) ≡ add_g (add_g a c) (add_g b d)
 add_middle a b c d =
     add_assoc a b (add_g c d)
     ∙ ap (add_g a) (sym (add_assoc b c d) ∙ ap (λ x. add_g x d) (add_comm b c) ∙ add_assoc c b d)
