@@ -1,5 +1,5 @@
 -- What the words of the command line ask for. This project's own.
-use Rattle.std.specs.Prelude.{ℕ, ◌+◌, Bool, ◌&&◌, List, [], ◌∷◌, Option, Some, None, Result, Ok, Err, bytes_eq, codes, nat_le, if◌then◌else◌}
+use Rattle.std.specs.Prelude.{ℕ, ◌≤◌, ◌+◌, Bool, ◌&&◌, List, [], ◌∷◌, Option, Some, None, Result, Ok, Err, bytes_eq, codes, nat_le, if◌then◌else◌}
 use Rattle.std.specs.Fmt.{decimal}
 use Rattle.std.specs.Str.Parse.{digits_value}
 use Rattle.qn_words.specs.declared.words.Job.{Job}
@@ -60,3 +60,12 @@ command_of w ws =
 abbrev pub job_of : List (List ℕ) → Result Job ℕ
 job_of [] = Err 1
 job_of (w ∷ ws) = command_of w ws
+
+-- 1 to 64 workers, where the job takes workers
+abbrev pub HasWorkers : Job → Type 0
+HasWorkers (Contract workers) = (1 ≤ workers) × (workers ≤ 64)
+HasWorkers Plan = Unit {0}
+HasWorkers Mpo = Unit {0}
+HasWorkers (Overlap workers) = (1 ≤ workers) × (workers ≤ 64)
+HasWorkers (Expect workers) = (1 ≤ workers) × (workers ≤ 64)
+HasWorkers (Gen seed workers) = (1 ≤ workers) × (workers ≤ 64)

@@ -1,6 +1,6 @@
-ghost use Rattle.std.specs.Prelude.{◌≡◌, ◌≤◌, ◌<◌, ◌^◌, ◌&&◌, ℕ, Some, IfSome, map, nat_le, string_bytes};
+ghost use Rattle.std.specs.Prelude.{◌≡◌, ◌≤◌, ◌<◌, ◌^◌, ◌&&◌, ℕ, Some, IfOk, IfSome, map, nat_le, string_bytes};
 ghost use Rattle.std.specs.Fmt.{decimal};
-ghost use Rattle.qn_words.specs.Words.{command_of, count_at, end_at, gen_of, job_by, job_of, number_in, workers_at};
+ghost use Rattle.qn_words.specs.Words.{HasWorkers, command_of, count_at, end_at, gen_of, job_by, job_of, number_in, workers_at};
 
 use qn_gauss::parse_decimal;
 
@@ -42,7 +42,8 @@ fn is_between(n: u64, low: u32, high: u32) -> bool
 /// The number from `low` to `high` whose decimal the word is.
 #[tactic(auto, using(crate::proofs::Numbers::number_of_decimal, crate::proofs::Numbers::no_number))]
 fn number(word: &str, low: u32, high: u32) -> Option<u32>
-    ensures { result ≡ number_in low high word.now }
+    ensures number { result ≡ number_in low high word.now }
+    ensures range { IfSome result (λ n. (low ≤ n) × (n ≤ high)) }
 {
     match natural(word) {
         Some(n) if is_between(n, low, high) => Some(n as u32),
@@ -52,7 +53,8 @@ fn number(word: &str, low: u32, high: u32) -> Option<u32>
 
 /// Nothing follows from this place on.
 fn end<T: Drop>(place: u32, value: T, words: &[String]) -> Result<T, u32>
-    ensures { result ≡ end_at place value (map string_bytes words.now) }
+    ensures end { result ≡ end_at place value (map string_bytes words.now) }
+    ensures same { IfOk result (λ kept. kept ≡ value) }
 {
     match words {
         [] => Ok(value),
@@ -63,7 +65,8 @@ fn end<T: Drop>(place: u32, value: T, words: &[String]) -> Result<T, u32>
 /// The number of workers at this place, behind which nothing follows.
 fn count(place: u32, words: &[String]) -> Result<u32, u32>
     requires { place ≤ 4 }
-    ensures { result ≡ count_at place (map string_bytes words.now) }
+    ensures count { result ≡ count_at place (map string_bytes words.now) }
+    ensures range { IfOk result (λ n. (1 ≤ n) × (n ≤ 64)) }
 {
     match words {
         [] => Err(place),
@@ -77,7 +80,8 @@ fn count(place: u32, words: &[String]) -> Result<u32, u32>
 /// The number of workers that the words from this place on ask for: one where there are none.
 fn workers(place: u32, words: &[String]) -> Result<u32, u32>
     requires { place ≤ 3 }
-    ensures { result ≡ workers_at place (map string_bytes words.now) }
+    ensures workers { result ≡ workers_at place (map string_bytes words.now) }
+    ensures range { IfOk result (λ n. (1 ≤ n) × (n ≤ 64)) }
 {
     match words {
         [] => Ok(1),
@@ -88,7 +92,8 @@ fn workers(place: u32, words: &[String]) -> Result<u32, u32>
 
 /// The seed, and the number of workers behind it.
 fn generated(words: &[String]) -> Result<Job, u32>
-    ensures { result ≡ gen_of (map string_bytes words.now) }
+    ensures job { result ≡ gen_of (map string_bytes words.now) }
+    ensures workers { IfOk result HasWorkers }
 {
     match words {
         [] => Err(2),
@@ -104,7 +109,8 @@ fn generated(words: &[String]) -> Result<Job, u32>
 
 /// The command of this name with the words behind it.
 fn command(name: &str, words: &[String]) -> Result<Job, u32>
-    ensures { result ≡ command_of name.now (map string_bytes words.now) }
+    ensures job { result ≡ command_of name.now (map string_bytes words.now) }
+    ensures workers { IfOk result HasWorkers }
 {
     match name {
         "contract" => Ok(Job::Contract {
@@ -127,7 +133,8 @@ fn command(name: &str, words: &[String]) -> Result<Job, u32>
 /// a number from 1 to 64. Err has the place, from 1, of the first word that does not fit, or one past
 /// the end where a word is missing.
 pub fn read_words(words: &[String]) -> Result<Job, u32>
-    ensures { result ≡ job_of (map string_bytes words.now) }
+    ensures job { result ≡ job_of (map string_bytes words.now) }
+    ensures workers { IfOk result HasWorkers }
 {
     match words {
         [] => Err(1),
