@@ -48,6 +48,7 @@ use Rattle.qn_net.proofs.Held.{legs-append}
 use Rattle.qn_net.proofs.LastTensor.{values_below, values_count}
 use Rattle.qn_net.proofs.PassingLemmas.{local_pair}
 use Rattle.qn_net.proofs.StepTensors.{lines_perm, lines_first}
+use Rattle.qn_value.proofs.RowsLemmas.{values-append}
 
 -- the values that stand at a place of a list
 
@@ -96,7 +97,7 @@ split_small fs ls d xs = go (reverse xs)
 
 -- labels
 
-all_there : (ks ls : List ℤ) → list_all (λ k. is_in int_eq k ls) ks ≡ true → (l : ℤ) → is_in int_eq l ks ≡ true → is_in int_eq l ls ≡ true
+pub all_there : (ks ls : List ℤ) → list_all (λ k. is_in int_eq k ls) ks ≡ true → (l : ℤ) → is_in int_eq l ks ≡ true → is_in int_eq l ls ≡ true
 all_there [] ls h l i = absurd (false≢true i)
 all_there (k ∷ ks) ls h l i =
     let p = and_parts (is_in int_eq k ls) (list_all (λ k. is_in int_eq k ls) ks) h in
@@ -107,7 +108,7 @@ all_there (k ∷ ks) ls h l i =
     go (inr e) here ih = ih e
 
 -- an end with the label
-end_with : (es : List End) (l : ℤ) → is_in int_eq l (map (λ (e : End). e.label) es) ≡ true → (e : End) × (is_in same_end e es ≡ true) × (e.label ≡ l)
+pub end_with : (es : List End) (l : ℤ) → is_in int_eq l (map (λ (e : End). e.label) es) ≡ true → (e : End) × (is_in same_end e es ≡ true) × (e.label ≡ l)
 end_with [] l h = absurd (false≢true h)
 end_with (x ∷ es) l h = go (or_cases (int_eq l x.label) (is_in int_eq l (map (λ (e : End). e.label) es)) h) (end_with es l)
   where
@@ -133,7 +134,7 @@ one_end x (b ∷ bs) h l i p q = go (or_cases (int_eq l b.label) (is_in int_eq l
         both _ _ (subst (λ k. is_in same_end (record { label = k; inward = true }) x.ends ≡ true) same p) (subst (λ k. is_in same_end (record { label = k; inward = false }) x.ends ≡ true) same q) h.0
     go (inr e) ih = ih e
 
-two_ends : (x : Node) (bs : List Bond) → HasOneEnd (λ e. true) x bs → (e f : End) → same_end e f ≡ false → is_in same_end e x.ends ≡ true → is_in same_end f x.ends ≡ true → e.label ≡ f.label →
+pub two_ends : (x : Node) (bs : List Bond) → HasOneEnd (λ e. true) x bs → (e f : End) → same_end e f ≡ false → is_in same_end e x.ends ≡ true → is_in same_end f x.ends ≡ true → e.label ≡ f.label →
     is_in int_eq e.label (labels bs) ≡ false
 two_ends x bs h e f n i j s = go (is_in int_eq e.label (labels bs)) refl
   where
@@ -150,15 +151,12 @@ two_ends x bs h e f n i j s = go (is_in int_eq e.label (labels bs)) refl
     go false t = t
     go true t = absurd (arrows e.inward f.inward refl refl t)
 
-apart_from : (x : End) (es : List End) → is_in same_end x es ≡ false → (e : End) → is_in same_end e es ≡ true → same_end x e ≡ false
+pub apart_from : (x : End) (es : List End) → is_in same_end x es ≡ false → (e : End) → is_in same_end e es ≡ true → same_end x e ≡ false
 apart_from x es n e i = go (same_end x e) refl
   where
     go : (b : Bool) → same_end x e ≡ b → b ≡ false
     go false q = refl
     go true q = absurd (false≢true (sym n ∙ subst (λ y. is_in same_end y es ≡ true) (sym (end_test.equal x e q)) i))
-
-values-append : (es fs : List End) (a : Assignment) → values (es ++ fs) a ≡ values es a ++ values fs a
-values-append es fs a = map-append a es fs
 
 reverse_twice : (xs : List ℕ) → reverse (reverse xs) ≡ xs
 reverse_twice [] = refl
@@ -171,11 +169,11 @@ values_off (v ∷ vs) k a h =
     ap₂ ◌∷◌ (h v (or_left (same_end v v) (is_in same_end v vs) (end_test.itself v))) (values_off vs k a (λ y i. h y (or_right (same_end y v) (is_in same_end y vs) i)))
 
 -- a list that is not empty has a last element
-parts_of : (x : End) (es : List End) → (us : List End) × (u : End) × (x ∷ es ≡ us ++ u ∷ [])
+pub parts_of : (x : End) (es : List End) → (us : List End) × (u : End) × (x ∷ es ≡ us ++ u ∷ [])
 parts_of x [] = ([], x, refl)
 parts_of x (e ∷ es) = let r = parts_of e es in (x ∷ r.0, r.1, ap (λ ys. x ∷ ys) r.2)
 
-last_of : (us : List End) (u : End) → last_one (map (λ (e : End). e.label) (us ++ u ∷ [])) ≡ u.label ∷ []
+pub last_of : (us : List End) (u : End) → last_one (map (λ (e : End). e.label) (us ++ u ∷ [])) ≡ u.label ∷ []
 last_of [] u = refl
 last_of (x ∷ []) u = refl
 last_of (x ∷ y ∷ us) u = last_of (y ∷ us) u

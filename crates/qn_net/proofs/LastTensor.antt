@@ -40,20 +40,18 @@ use Rattle.qn_net.proofs.PassingLemmas.{flux, flux-perm}
 use Rattle.qn_net.proofs.NetworkLemmas.{network_value}
 use Rattle.qn_net.proofs.CoupledNodes.{no_end}
 use Rattle.qn_net.proofs.StepTensors.{map_all}
+use Rattle.qn_value.proofs.OpenLegs.{range-last}
+use Rattle.qn_sign.proofs.Positions.{length-perm}
 
 -- the labels of the open legs
 
-range_more : (a n : ℕ) → range_with_len a (suc n) ≡ range_with_len a n ++ (a + n) ∷ []
-range_more a zero = ap (λ k. k ∷ []) (omega arith)
-range_more a (suc n) = ap (λ ks. a ∷ ks) (range_more (a + 1) n ∙ ap (λ k. range_with_len (a + 1) n ++ k ∷ []) (omega arith))
-
-labels_of_opens : (es : List End) (n : ℕ) → map (λ (e : End). e.label) (opens_of es n) ≡ open_labels n
+pub labels_of_opens : (es : List End) (n : ℕ) → map (λ (e : End). e.label) (opens_of es n) ≡ open_labels n
 labels_of_opens es zero = refl
 labels_of_opens es (suc n) =
     map-append (λ (e : End). e.label) (opens_of es n) (open_end es n ∷ [])
     ∙ ap (λ ls. ls ++ negsuc n ∷ []) (labels_of_opens es n)
     ∙ sym (map-append negsuc (positions n) (n ∷ []))
-    ∙ ap (map negsuc) (sym (range_more 0 n ∙ ap (λ k. positions n ++ k ∷ []) (omega arith)))
+    ∙ ap (map negsuc) (sym (range-last 0 n ∙ ap (λ k. positions n ++ k ∷ []) (omega arith)))
 
 open_labels_distinct : (a n : ℕ) → IsDistinct int_eq (map negsuc (range_with_len a n))
 open_labels_distinct a zero = tt
@@ -130,15 +128,9 @@ same_by_labels es d (u ∷ us) (v ∷ vs) h k e =
 all_in : (es : List End) → All (λ e. is_in same_end e es ≡ true) es
 all_in es k d l = is_in-at same_end end_test es k d l
 
-length-perm : {A : Type 0} {xs ys : List A} → Perm xs ys → length xs ≡ length ys
-length-perm none = refl
-length-perm (keep p) = ap suc (length-perm p)
-length-perm swap = refl
-length-perm (then_by p q) = length-perm p ∙ length-perm q
-
 -- values in range
 
-values_from : (sectors : ℤ → List SectorValue) (es : List End) (a : Assignment) → ((e : End) → is_in same_end e es ≡ true → a e < total (sectors e.label)) → IsValues (legs_on sectors es) (values es a)
+pub values_from : (sectors : ℤ → List SectorValue) (es : List End) (a : Assignment) → ((e : End) → is_in same_end e es ≡ true → a e < total (sectors e.label)) → IsValues (legs_on sectors es) (values es a)
 values_from sectors [] a h = refl
 values_from sectors (e ∷ es) a h =
     (h e (or_left (same_end e e) (is_in same_end e es) (end_test.itself e)), values_from sectors es a (λ f i. h f (or_right (same_end f e) (is_in same_end f es) i)))

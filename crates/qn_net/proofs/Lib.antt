@@ -1,5 +1,3 @@
-pub mod Products
-pub mod Scalars
 pub mod Homogeneous
 pub mod Numbers
 pub mod PartLemmas
@@ -25,6 +23,7 @@ pub mod CoupledNodes
 pub mod NamedCouples
 pub mod SizedNodes
 pub mod StepTensors
+pub mod ResultTensors
 pub mod StepLaws
 pub mod FirstTensors
 pub mod LastTensor
@@ -35,3 +34,4 @@ pub mod FuseEntries
 pub mod WorkedPremises
 pub mod NeverFirst
 pub mod OneFault
+pub mod FirstSteps

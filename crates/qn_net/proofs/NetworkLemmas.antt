@@ -22,6 +22,7 @@ use Rattle.qn_net.proofs.PartLemmas.{map-append}
 use Rattle.qn_net.proofs.PlanLemmas.{plan_start, first_nodes}
 use Rattle.qn_net.proofs.PassLemmas.{first_same}
 use Rattle.qn_net.proofs.PassingLemmas.{admissible_same, start_keep}
+use Rattle.qn_value.proofs.LabelLemmas.{word_ends}
 
 -- the nodes of the members
 
@@ -32,12 +33,6 @@ same_nodes (m ∷ ms) = ap (λ ns. node_of m.placed ∷ ns) (same_nodes ms)
 same_fluxes : (ms : List PlacedMember) → map (λ (p : Placed). p.tensor.flux) (map (λ m. m.placed) ms) ≡ map (λ k. k.flux) (map member_of ms)
 same_fluxes [] = refl
 same_fluxes (m ∷ ms) = ap (λ qs. m.placed.tensor.flux ∷ qs) (same_fluxes ms)
-
-word_ends : (ps : List Placed) → word (map node_of ps) ≡ ends (slots ps)
-word_ends [] = refl
-word_ends (p ∷ ps) =
-    ap (λ es. ends (slots_of p.tensor.legs p.labels) ++ es) (word_ends ps)
-    ∙ sym (map-append (λ s. s.end) (slots_of p.tensor.legs p.labels) (slots ps))
 
 -- the labels of the lines are positive, and each stands on a leg
 
@@ -113,7 +108,7 @@ module _ (net : NetworkValue) (w : IsWellFormed net) where
   members_homogeneous : AreHomogeneous (parities net) (map (λ k. k.node) (map member_of net.members))
   members_homogeneous = subst (AreHomogeneous (parities net)) (same_nodes net.members) (placed_law net.group (placed net) w.group w.placed w.uniform).1
 
-  members_conserve : AllConserve net.group (charge_on (sectors net)) (map (λ k. k.node) (map member_of net.members)) (map (λ k. k.flux) (map member_of net.members))
+  pub members_conserve : AllConserve net.group (charge_on (sectors net)) (map (λ k. k.node) (map member_of net.members)) (map (λ k. k.flux) (map member_of net.members))
   members_conserve =
       subst (λ ns. AllConserve net.group (charge_on (sectors net)) ns (map (λ k. k.flux) (map member_of net.members))) (same_nodes net.members)
       (subst (AllConserve net.group (charge_on (sectors net)) (map node_of (placed net))) (same_fluxes net.members)

@@ -19,16 +19,8 @@ use Rattle.qn_value.proofs.ExchangeLaw.{exchange_law}
 use Rattle.qn_value.proofs.Steps.{any_block_value, perm_word, moved_network}
 use Rattle.qn_net.proofs.Homogeneous.{homogeneous-append}
 use Rattle.qn_value.proofs.OrderLaws.{contract_at, opens_law}
-
-pub signed-comm : (b c : Bool) (x : Gaussian) → signed b (signed c x) ≡ signed c (signed b x)
-signed-comm b c x = sym (signed-xor b c x) ∙ ap (λ s. signed s x) (xor_comm b c) ∙ signed-xor c b x
-
-pub signed-twice : (b : Bool) (x : Gaussian) → signed b (signed b x) ≡ x
-signed-twice b x = sym (signed-xor b b x) ∙ ap (λ s. signed s x) (none_left b)
-  where
-    none_left : (b : Bool) → xor b b ≡ false
-    none_left true = refl
-    none_left false = refl
+pub use Rattle.qn_gauss.proofs.Signs.{signed-comm}
+pub use Rattle.qn_gauss.proofs.Signs.{signed-twice}
 
 -- a tensor that has the values of a sub-network, up to one sign, gives way to it
 

@@ -36,6 +36,8 @@ use Rattle.qn_net.specs.Passing.{result_magnitude, result_legs, step_magnitude, 
 use Rattle.qn_net.proofs.PartLemmas.{map-append, perm_merged}
 use Rattle.qn_net.proofs.PlanSteps.{signed_node}
 use Rattle.qn_net.proofs.PlanTwist.{ends_distinct}
+use Rattle.qn_block.proofs.Lookup.{values_length}
+use Rattle.qn_value.proofs.BlocksLemmas.{length-legs}
 
 -- the networks of a step alone
 
@@ -178,15 +180,6 @@ same_charges : (c : List ℤ) → pointwise int_eq c c ≡ true
 same_charges [] = refl
 same_charges (x ∷ c) = ap₂ ◌&&◌ (label_test.itself x) (same_charges c)
 
-values_long : (ls : List LegValue) (xs : List ℕ) → IsValues ls xs → length xs ≡ length ls
-values_long [] xs h = ap (λ ys. length ys) h
-values_long (l ∷ ls) [] h = absurd h
-values_long (l ∷ ls) (x ∷ xs) h = ap suc (values_long ls xs h.1)
-
-legs_long : (sectors : ℤ → List SectorValue) (es : List End) → length (legs_on sectors es) ≡ length es
-legs_long sectors [] = refl
-legs_long sectors (e ∷ es) = ap suc (legs_long sectors es)
-
 -- no number of a range passes the test
 none_where : (test : ℕ → Bool) (i n : ℕ) → ((k : ℕ) → k < i + n → test k ≡ false) → first_where test (range_with_len i n) ≡ None
 none_where test i zero h = refl
@@ -221,7 +214,7 @@ module _ (fs : List Factor) (group : IsGroup fs) (sectors : ℤ → List SectorV
       net_is o l =
           net_on fs sectors (result par t).node.ends (at_values (result par t).node.ends (values_at legs u o))
           ∙ ap (λ vs. net fs legs (sectors_at legs vs))
-          (values_back (result par t).node.ends (values_at legs u o) d (values_long legs (values_at legs u o) (values_in legs u o hu l) ∙ legs_long sectors (result par t).node.ends))
+          (values_back (result par t).node.ends (values_at legs u o) d (values_length legs (values_at legs u o) (values_in legs u o hu l) ∙ length-legs sectors (result par t).node.ends))
           ∙ ap (net fs legs) (back legs u o hu l).sectors
 
       not_above : nat_lt limit 0 ≡ false

@@ -13,6 +13,9 @@ use Rattle.qn_value.proofs.Sums.{label_test}
 use Rattle.qn_value.proofs.NamesLemmas.{names_map}
 use Rattle.qn_value.proofs.CoupleLemmas.{couple_at, couple_passes, stands_in, one_couple, open_before, open_grows}
 use Rattle.qn_value.proofs.CoupledLemmas.{coupled_label, open_label}
+use Rattle.qn_value.proofs.CoupledLemmas.{pos_equal}
+use Rattle.qn_value.proofs.CoupledLemmas.{negsuc_equal}
+use Rattle.qn_value.proofs.CoupledLemmas.{pos_apart}
 
 -- what stands in a list at its positions
 pub map-positions : {E : Type 0} (xs : List E) (d : E) → xs ≡ map (λ i. get_or xs i d) (positions (length xs))
@@ -42,15 +45,6 @@ follows_range f g a (suc n) h =
       (λ e. subst (λ x. int_eq (g a) x ≡ true) (k b (omega arith) (label_test.equal (f a) (f b) e)) (label_test.itself (g a))),
       only (b + 1) m (λ j l. k j (omega (arith, l))),
     )
-
-pos_equal : (m n : ℕ) → pos m ≡ pos n → m ≡ n
-pos_equal m n e = cc e
-
-negsuc_equal : (m n : ℕ) → negsuc m ≡ negsuc n → m ≡ n
-negsuc_equal m n e = cc e
-
-pos_apart : (m n : ℕ) → pos m ≡ negsuc n → ⊥
-pos_apart m n e = absurd (cc e)
 
 -- the legs at the two places of each couple have one name
 module _ (cs : List (ℕ × ℕ)) (g : ℕ → ℤ) (same : All (λ c. g c.0 ≡ g c.1) cs) where

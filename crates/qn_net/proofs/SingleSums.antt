@@ -6,29 +6,7 @@ use Rattle.qn_value.specs.Networks.{End, Bond, Assignment, assign, in_end, out_e
 use Rattle.qn_value.specs.Magnitudes.{total_below, total, IsAt}
 use Rattle.qn_value.proofs.Sums.{label_test, Meets, assign_both}
 use Rattle.qn_value.proofs.MagnitudeLemmas.{total_zero}
-
--- numbers below n, of which those that are not k give 0
-below_one : (n k bound : ℕ) (f : ℕ → ℕ) → ((v : ℕ) → f v ≤ bound) → ((v : ℕ) → (v == k) ≡ false → f v ≡ 0) → total_below n f ≤ bound
-below_one zero k bound f h z = omega arith
-below_one (suc n) k bound f h z = go (n == k) refl (below_one n k bound f h z)
-  where
-    past : (m : ℕ) → m ≤ k → total_below m f ≡ 0
-    past zero l = refl
-    past (suc m) l = ap₂ ◌+◌ (past m (omega arith)) (z m (apart (m == k) refl))
-      where
-        apart : (b : Bool) → (m == k) ≡ b → b ≡ false
-        apart false e = refl
-        apart true e = let f : m ≡ k = eqb-true m k e in absurd (omega arith)
-
-    go : (b : Bool) → (n == k) ≡ b → total_below n f ≤ bound → total_below n f + f n ≤ bound
-    go true e ih =
-        let g : n ≡ k = eqb-true n k e in
-        let p : total_below n f ≡ 0 = past n (omega arith) in
-        let q : f n ≤ bound = h n in
-        omega arith
-    go false e ih =
-        let p : f n ≡ 0 = z n e in
-        omega arith
+use Rattle.qn_value.proofs.MagnitudeLemmas.{below_one}
 
 -- the summand counts only at the values that k gives to the bonds; both ends of each bond have one value, and P holds whatever the bonds' values
 single_meet : (P : Assignment → Type 0) (bs : List Bond) (f : Assignment → ℕ) (k : Assignment) (bound : ℕ) → IsDistinct int_eq (labels bs) →

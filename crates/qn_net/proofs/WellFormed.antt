@@ -27,6 +27,7 @@ use Rattle.qn_net.proofs.LineLemmas.{none_zero, none_above, positives_all}
 use Rattle.qn_net.proofs.LabelledLemmas.{have_labels}
 use Rattle.qn_net.proofs.MeetingLemmas.{labels_long, weight, counts, tally-cons, with-cons, one_each, slot_end, ends_long}
 use Rattle.qn_net.proofs.OpenLemmas.{positive_suc, stands_below, below_open}
+use Rattle.qn_index.proofs.Admitted.{same_tests}
 
 -- ends in a list, and how often they stand
 
@@ -217,11 +218,6 @@ push_cases l (x ∷ xs) y = ap (λ b. int_eq l x || b) (push_cases l xs y) ∙ s
     shift : (p q r : Bool) → (p || (q || r)) ≡ ((p || q) || r)
     shift p q r = grind arith
 
-both : (a b : Bool) → (a ≡ true → b ≡ true) → (b ≡ true → a ≡ true) → a ≡ b
-both true b f g = sym (f refl)
-both false true f g = g refl
-both false false f g = refl
-
 -- what follows from labels without a fault
 
 module _ (ms : List LabelledMember) (l : AreLabelled ms) where
@@ -332,7 +328,7 @@ module _ (ms : List LabelledMember) (l : AreLabelled ms) where
   -- an order with all positive labels that stand, and no other ones
   order_from : (order : List ℤ) → IsDistinct int_eq order → ((k : ℤ) → is_in int_eq k order ≡ true → (n : ℕ) × (k ≡ pos n) × (0 < legs_with (pos n) es)) →
       ((n : ℕ) → 0 < legs_with (pos n) es → is_in int_eq (pos n) order ≡ true) → IsOrderOf es order
-  order_from order d f g = record { distinct = d; positive = λ k. both (is_in int_eq k order) (is_positive k && is_in same_end (record { label = k; inward = true }) es) (to k) (back k) }
+  order_from order d f g = record { distinct = d; positive = λ k. same_tests (is_in int_eq k order) (is_positive k && is_in same_end (record { label = k; inward = true }) es) (to k) (back k) }
     where
       to : (k : ℤ) → is_in int_eq k order ≡ true → (is_positive k && is_in same_end (record { label = k; inward = true }) es) ≡ true
       to k h = let w = f k h in subst (λ j. (is_positive j && is_in same_end (record { label = j; inward = true }) es) ≡ true) (sym w.1) (ap₂ ◌&&◌ (positive_of w.0 w.2) (inward_of w.0 w.2))

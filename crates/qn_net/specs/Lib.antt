@@ -1,4 +1,3 @@
-pub mod Vectors
 pub mod Groups
 pub mod Steps
 pub mod Plans
@@ -11,7 +10,9 @@ pub mod Examples
 pub mod Members
 pub mod Refusals
 pub mod Operations
+pub mod Results
 pub mod FuseSteps
 pub mod Tables
 pub mod Seen
 pub mod Unique
+pub mod FirstSteps

@@ -14,7 +14,6 @@ mod network;
 pub mod operations;
 mod order;
 pub mod passing;
-mod plain;
 pub mod plans;
 mod table;
 #[cfg(test)]
@@ -24,4 +23,3 @@ pub mod values;
 pub use fault::NetFault;
 pub use member::{Member, MemberRole, NetTensor, member_law};
 pub use network::Network;
-pub use plain::plain_value;

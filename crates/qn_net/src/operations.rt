@@ -1,6 +1,7 @@
 //! Operations on tensors as steps of a network: what is kept for a group is its tensor.
 
 ghost use Rattle.qn_net.specs.Operations.{FirstTensorsLaw, LinesLaw, PairStepLaw, TraceStepLaw, LastTensorLaw};
+ghost use Rattle.qn_net.specs.Results.{ResultTensorLaw};
 
 /// Before the first step the tensors of the groups are those of the members.
 pub fn first_tensors_law()
@@ -25,4 +26,9 @@ pub fn trace_step_law()
 /// The last tensor, with its legs in the order of the open labels, has the value of the network.
 pub fn last_tensor_law()
     ensures { LastTensorLaw }
+{}
+
+/// A tensor with the legs, the flux and the entries of a pair step's result is the tensor of the result.
+pub fn result_tensor_law()
+    ensures { ResultTensorLaw }
 {}

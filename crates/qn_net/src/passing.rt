@@ -1,5 +1,6 @@
 //! Where the sums of magnitudes of a plan pass the limit.
 
+ghost use Rattle.qn_net.specs.FirstSteps.{FirstStepsLaw};
 ghost use Rattle.qn_net.specs.Parts.{PartMagnitudeLaw};
 ghost use Rattle.qn_net.specs.Passing.{AdmissibleLaw, PassLaw};
 
@@ -16,4 +17,9 @@ pub fn pass_law()
 /// The first passing place is found among the admissible tuples.
 pub fn admissible_law()
     ensures { AdmissibleLaw }
+{}
+
+/// The first passing place of the first steps of a network is found among the admissible tuples.
+pub fn first_steps_law()
+    ensures { FirstStepsLaw }
 {}
