@@ -1,0 +1,13 @@
+pub mod Bringing
+pub mod NextSteps
+pub mod Starting
+pub mod Reaching
+pub mod Finding
+pub mod Fitting
+pub mod Sharing
+pub mod Keeping
+pub mod Listing
+pub mod LastLabel
+pub mod Parted
+pub mod Costs
+pub mod StepsFit

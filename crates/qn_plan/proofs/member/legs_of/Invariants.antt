@@ -1,0 +1,6 @@
+use Rattle.std.proofs.Common.{◌≡◌, take}
+use Rattle.qn_net.specs.Members.{member_tensor}
+use Rattle.qn_plan.proofs.member.legs_of.Given as goal
+
+abbrev pub invariant-loop-j : goal.invariant-loop-j
+invariant-loop-j g l = l.legs.items ≡ take l.j (member_tensor l.member.member).legs
