@@ -1,0 +1,5 @@
+pub mod Evaluated
+pub mod Fusing
+pub mod Labels
+pub mod Parts
+pub mod Carrying
