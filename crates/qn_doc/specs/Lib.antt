@@ -1,4 +1,8 @@
-pub mod Faults
-pub mod Tree
-pub mod Forms
-pub mod Texts
+pub mod Combiners
+pub mod Members
+pub mod LabelFaults
+pub mod Networks
+pub mod NetworkTexts
+pub mod TensorsReadBack
+pub mod NetworksReadBack
+pub mod WorkedDocument

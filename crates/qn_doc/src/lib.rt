@@ -1,11 +1,20 @@
-//! Documents: their tree, their first fault, the forms of their values, and the texts that answer.
+//! Documents of networks: their first fault, the networks that they stand for, and their texts.
+//! Parts of documents and whole tensors are those of `qn_parts`.
 #![tactic(auto)]
 
-mod fault;
-pub mod forms;
-mod text;
-mod tree;
+mod combiners;
+pub mod laws;
+mod members;
+mod networks;
+mod tables;
+mod writing;
 
-pub use fault::{DocFault, Fault};
-pub use text::{entries_value, entry_value, line};
-pub use tree::{flag_at, items, list, read_tree, whole_at};
+pub use networks::{AnyNet, read_network};
+pub use qn_parts::{
+    AnyTensor, DocFault, Fault, entries_value, entry_value, flag_at, forms, items, items_at, line,
+    list, parts, read_tensor, read_tree, whole_at, write_tensor,
+};
+pub use writing::write_network;
+
+#[cfg(test)]
+mod tests;

@@ -1,0 +1,52 @@
+-- Readers whose later faults are told by a relation.
+use Rattle.std.proofs.Common.{◌≡◌, List, inl, ap, subst, ◌∙◌, ℤ}
+use Rattle.std.specs.Prelude.{Option, Some, None}
+use Rattle.std.specs.Option.{option_or}
+use Rattle.qn_parts.specs.declared.fault.Fault.{Fault}
+use Rattle.qn_parts.specs.declared.fault.DocFault.{DocFault}
+use Rattle.qn_parts.specs.declared.fault.DocFault.TheVariants.{Bad, Memory}
+use Rattle.qn_parts.specs.Faults.{Fails}
+use Rattle.serde_json.specs.Data.{Data}
+use Rattle.qn_charge.specs.declared.factor.Factor.{Factor}
+use Rattle.std.specs.List.{All}
+use Rattle.std.proofs.lemmas.List.Elements.{All-weaker}
+use Rattle.qn_net.specs.Members.{LabelledMember, IsMemberOf}
+use Rattle.qn_doc.specs.Members.{IsInNetwork}
+use Rattle.qn_net.specs.NetworkValues.{NetworkValue}
+use Rattle.qn_net.specs.Refusals.{IsFaultless, network_of}
+use Rattle.qn_parts.specs.Documents.{factors_of}
+use Rattle.qn_doc.specs.Networks.{FailsBy, members_of, order_of, IsNetworkOf}
+
+-- a fault of the parts
+pub fails_early : (first : Option Fault) (Later : Fault → Type 0) (e : DocFault) → Fails e first → FailsBy first Later e
+fails_early first Later (Bad f) h = inl h
+fails_early first Later Memory h = tt
+
+earlier : (a b : Option Fault) (f : Fault) → a ≡ Some f → option_or a b ≡ Some f
+earlier None b f e = cc
+earlier (Some x) b f e = e
+
+-- a fault of the earlier of two walks
+pub fails_first : (a b : Option Fault) (Later : Fault → Type 0) (e : DocFault) → Fails e a → FailsBy (option_or a b) Later e
+fails_first a b Later (Bad f) h = inl (earlier a b f h)
+fails_first a b Later Memory h = tt
+
+-- a fault of the later of two walks, where the earlier finds none
+pub fails_then : (a b : Option Fault) (Later : Fault → Type 0) (e : DocFault) → a ≡ None → FailsBy b Later e → FailsBy (option_or a b) Later e
+fails_then None b Later e is h = h
+fails_then (Some x) b Later e is h = cc
+
+-- members without a fault are the network that is meant
+pub network_means : (d : Data) (fs : List Factor) (ms : List LabelledMember) (o : Option (List ℤ)) (n : NetworkValue) → fs ≡ factors_of d → ms ≡ members_of d → o ≡ order_of d
+    → n ≡ network_of fs ms o → IsFaultless ms o → IsNetworkOf d n
+network_means d fs ms o n a b c is h = record {
+  is = is ∙ (ap (λ x. network_of x ms o) a ∙ (ap (λ x. network_of (factors_of d) x o) b ∙ ap (λ x. network_of (factors_of d) (members_of d) x) c));
+  faultless = subst (λ x. IsFaultless (members_of d) x) c (subst (λ x. IsFaultless x o) b h);
+}
+
+member_in : (fs : List Factor) (m : LabelledMember) → IsInNetwork fs m → IsMemberOf fs m
+unfolding IsInNetwork
+member_in fs m h = h
+
+pub all_in_network : (fs : List Factor) (ms : List LabelledMember) → All (IsInNetwork fs) ms → All (IsMemberOf fs) ms
+all_in_network fs ms all = All-weaker (IsInNetwork fs) (IsMemberOf fs) (member_in fs) ms all

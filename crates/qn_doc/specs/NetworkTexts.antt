@@ -1,0 +1,59 @@
+-- The text of a network: compact JSON, the keys of each object ascending. Blocks that are all zeros are left out.
+use Rattle.std.specs.Prelude.{◌≡◌, ℕ, ℤ, List, map, filter, codes, Some}
+use Rattle.serde_json.specs.Data.{Data, string, object, member, no_members}
+use Rattle.qn_charge.specs.declared.factor.Factor.{Factor}
+use Rattle.qn_block.specs.Blocked.{BlockedValue, is_filled}
+use Rattle.qn_block.specs.Combiners.{CombinerValue}
+use Rattle.qn_net.specs.Members.{MemberValue, LabelledMember, placed_member}
+use Rattle.qn_net.specs.Members.MemberValue.{own, fuse, split}
+use Rattle.qn_net.specs.NetworkValues.{NetworkValue}
+use Rattle.qn_parts.specs.Texts.{line_of}
+use Rattle.qn_parts.specs.Tree.{tree_of}
+use Rattle.qn_parts.specs.TensorTexts.{list_data, whole_data, factor_data, charge_data, arrow_word, leg_data, block_data}
+
+abbrev pub labels_data : List ℤ → Data
+labels_data ls = list_data (map whole_data ls)
+
+-- {"blocks":[block,..],"flux":flux,"labels":[whole,..],"legs":[leg,..]}
+abbrev pub own_data : BlockedValue → List ℤ → Data
+own_data t ls =
+    object
+    (member (codes "blocks") (list_data (map block_data (filter is_filled t.blocks)))
+    (member (codes "flux") (charge_data t.flux)
+    (member (codes "labels") (labels_data ls)
+    (member (codes "legs") (list_data (map leg_data t.legs)) no_members))))
+
+-- {"dir":"out" or "in","legs":[leg,..],"mode":"fuse" or "split"}
+abbrev pub combine_data : CombinerValue → List ℕ → Data
+combine_data c mode =
+    object
+    (member (codes "dir") (string (arrow_word c.arrow))
+    (member (codes "legs") (list_data (map leg_data c.legs))
+    (member (codes "mode") (string mode) no_members)))
+
+-- {"combine":combiner,"labels":[whole,..]}
+abbrev pub table_data : CombinerValue → List ℕ → List ℤ → Data
+table_data c mode ls = object (member (codes "combine") (combine_data c mode) (member (codes "labels") (labels_data ls) no_members))
+
+abbrev pub labelled_data : MemberValue → List ℤ → Data
+labelled_data (own t) ls = own_data t ls
+labelled_data (fuse c) ls = table_data c (codes "fuse") ls
+labelled_data (split c) ls = table_data c (codes "split") ls
+
+abbrev pub member_data : LabelledMember → Data
+member_data m = labelled_data m.member m.labels
+
+-- {"group":group,"order":[whole,..],"tensors":[member,..]}
+abbrev pub network_data : List Factor → List ℤ → List LabelledMember → Data
+network_data fs order ms =
+    object
+    (member (codes "group") (list_data (map factor_data fs))
+    (member (codes "order") (labels_data order)
+    (member (codes "tensors") (list_data (map member_data ms)) no_members)))
+
+-- the text of the network whose members these are, which is read as the tree that it was written from
+pub record IsTextOf (net : NetworkValue) (text : List ℕ) : Type 0 where
+  pub members : List LabelledMember
+  pub are : map placed_member members ≡ net.members
+  pub is : text ≡ line_of (network_data net.group net.order members)
+  pub tree : tree_of text ≡ Some (network_data net.group net.order members)

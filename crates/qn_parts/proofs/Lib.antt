@@ -1,0 +1,11 @@
+pub mod Lists
+pub mod Newline
+pub mod Trees
+pub mod Dims
+pub mod Ranges
+pub mod Decimals
+pub mod BlockWalk
+pub mod GroupSize
+pub mod Floats
+pub mod Accepted
+pub mod Depths
