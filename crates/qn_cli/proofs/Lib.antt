@@ -1,3 +1,4 @@
+pub mod Outcomes
 pub mod Completeness
-pub mod Forms
 pub mod Pieces
+pub mod Costs

@@ -1,5 +1,4 @@
 pub mod Answers
 pub mod Lines
 pub mod Outcomes
-pub mod TwoTensors
 pub mod Statuses

@@ -5,7 +5,7 @@ use denote.Bor.{Bor}
 use Rattle.serde_json.specs.Written.{comma_if}
 use Rattle.std.specs.Io.KnownBytes.{Appends}
 use Rattle.qn_outside.specs.Faults.{Rose}
-use Rattle.qn_doc.specs.declared.fault.Fault.{Fault}
+use Rattle.qn_parts.specs.declared.fault.Fault.{Fault}
 use Rattle.qn_cli.specs.declared.status.Status.{Status}
 use Rattle.qn_cli.specs.declared.status.Status.TheVariants.{Done, NotBuilt, Usage, Malformed, Passed, ReadFault, WriteFault, Memory}
 

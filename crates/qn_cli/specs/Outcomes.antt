@@ -1,18 +1,27 @@
--- What a job and the bytes that came ask for: a text, or the fault, or the step that passes.
-use Rattle.std.specs.Prelude.{ℕ, List, [], length, nat_lt, if◌then◌else◌, Option, Some, None, Result, Ok, Err, Bool, true, false}
-use Rattle.std.specs.Option.{option_map_or}
-use Rattle.serde_json.specs.Data.{Data}
-use Rattle.qn_doc.specs.declared.fault.Fault.{Fault}
-use Rattle.qn_doc.specs.Faults.{fault}
-use Rattle.qn_doc.specs.Tree.{tree_of}
+-- What a command comes to on the bytes of its document: a text, or the document's first fault, or the first step that passes.
+use Rattle.std.specs.Prelude.{◌≡◌, ◌⊎◌, ◌+◌, ◌≤◌, ℕ, ℤ, List, [], filter, map, Option, Some, None, Result, Ok, Err, Bool, true, false, if◌then◌else◌}
+use Rattle.std.specs.Option.{IsSomeAnd}
+use Rattle.qn_index.specs.Legs.{LegValue}
+use Rattle.qn_index.specs.Tuples.{admitted}
+use Rattle.qn_value.specs.Blocks.{legs_on}
+use Rattle.qn_value.specs.Fluxes.{sum_flux}
+use Rattle.qn_value.specs.Magnitudes.{all_blocks}
+use Rattle.qn_block.specs.Blocked.{BlockedValue, is_filled}
+use Rattle.qn_net.specs.NetworkValues.{NetworkValue, sectors, opens, value, passing_place}
+use Rattle.qn_plan.specs.Planned.{planned, first_wide, cost_of_plan}
+use Rattle.qn_parts.specs.declared.fault.Fault.{Fault}
+use Rattle.qn_parts.specs.Faults.{fault}
+use Rattle.qn_parts.specs.Tree.{tree_of}
+use Rattle.qn_parts.specs.TensorTexts.{tensor_text}
+use Rattle.qn_doc.specs.Networks.{IsNetworkOf, bytes_fault, IsLabelFaultIn}
+use Rattle.qn_texts.specs.PlanTexts.{plan_text}
 use Rattle.qn_words.specs.declared.words.Job.{Job}
 use Rattle.qn_words.specs.declared.words.Job.TheVariants.{Contract, Plan, Mpo, Overlap, Expect, Gen}
-use Rattle.qn_cli.specs.TwoTensors.{two_tensors, data_of, answer_text}
 
 -- whether the job is built; nothing is read for another
 abbrev pub is_built : Job → Bool
 is_built (Contract workers) = true
-is_built Plan = false
+is_built Plan = true
 is_built Mpo = false
 is_built (Overlap workers) = false
 is_built (Expect workers) = false
@@ -24,10 +33,8 @@ built_job (Ok job) = if is_built job then Some job else None
 built_job (Err place) = None
 
 pub data Outcome : Type 0 where
-  -- the document is malformed, and this is its first fault
+  -- the document's first fault
   refused : Fault → Outcome
-  -- documents of this form aren't built yet
-  unbuilt : Outcome
   -- a sum of magnitudes passes the limit, first at this step, tuple and offset
   passed : ℕ → List ℕ → ℕ → Outcome
   -- this text is the answer
@@ -37,42 +44,65 @@ pub data Outcome : Type 0 where
 abbrev pub most_bytes : ℕ
 most_bytes = 67108864
 
-abbrev pub contraction : Option (Data × Data) → Outcome
-contraction None = unbuilt
-contraction (Some p) = answered (answer_text p.0 p.1)
+-- the network that the bytes say, which has none of the faults F1 to F26
+pub record IsNetworkIn (bytes : List ℕ) (net : NetworkValue) : Type 0 where
+  pub faultless : bytes_fault bytes ≡ None
+  pub network : IsSomeAnd (tree_of bytes) (λ d. IsNetworkOf d net)
 
-abbrev pub outcome_of_tree : Job → Data → Outcome
-outcome_of_tree (Contract workers) d = contraction (two_tensors d)
-outcome_of_tree Plan d = unbuilt
-outcome_of_tree Mpo d = unbuilt
-outcome_of_tree (Overlap workers) d = unbuilt
-outcome_of_tree (Expect workers) d = unbuilt
-outcome_of_tree (Gen seed workers) d = unbuilt
+-- the first of the faults F1 to F26: of the bytes, the tree and the members; and where these have none, of the labels and the order
+abbrev pub IsBytesFault : List ℕ → Fault → Type 0
+IsBytesFault bytes f = (bytes_fault bytes ≡ Some f) ⊎ ((bytes_fault bytes ≡ None) × IsLabelFaultIn bytes f)
 
-abbrev pub outcome_of_read : Job → Option Data → Outcome
-outcome_of_read job None = refused (fault 2 0 0 0)
-outcome_of_read job (Some d) = outcome_of_tree job d
+-- F27: the first step whose result is too wide
+abbrev pub IsWideStep : NetworkValue → Fault → Type 0
+IsWideStep net f = (step : ℕ) × (first_wide net ≡ Some step) × (f ≡ fault 27 0 step 0)
 
--- F1 for too many bytes, then F2 for what is no JSON, then what the tree asks for
-abbrev pub outcome_of : Job → List ℕ → Outcome
-outcome_of job bytes = if nat_lt most_bytes (length bytes) then refused (fault 1 0 0 0) else outcome_of_read job (tree_of bytes)
+-- no step is too wide, and the first passing place of the network is this one
+abbrev pub IsPassingPlace : NetworkValue → ℕ → List ℕ → ℕ → Type 0
+IsPassingPlace net step at offset = (first_wide net ≡ None) × (passing_place net ≡ Some (record { step = step; tuple = at; offset = offset }))
 
--- the text of an answer
-abbrev pub text_of : Outcome → List ℕ
-text_of (refused f) = []
-text_of unbuilt = []
-text_of (passed step at offset) = []
-text_of (answered text) = text
+-- the first fault of a document of a network
+abbrev pub IsFirstFault : List ℕ → Fault → Type 0
+IsFirstFault bytes f = IsBytesFault bytes f ⊎ ((net : NetworkValue) × IsNetworkIn bytes net × IsWideStep net f)
 
--- the most multiplications that a tree asks for
-abbrev pub cost_of_tree : Job → Data → ℕ
-cost_of_tree (Contract workers) d = option_map_or (λ p. length (data_of p.0)) (two_tensors d) 0
-cost_of_tree Plan d = 0
-cost_of_tree Mpo d = 0
-cost_of_tree (Overlap workers) d = 0
-cost_of_tree (Expect workers) d = 0
-cost_of_tree (Gen seed workers) d = 0
+-- the value of a network as a tensor: its legs are the open ones -1, -2, .., its flux is the sum of all fluxes, and its blocks are those of the network's values that are not all zeros
+abbrev pub value_tensor : NetworkValue → BlockedValue
+value_tensor net =
+    let legs : List LegValue = legs_on (sectors net) (opens net) in
+    let flux : List ℤ = sum_flux net.group (map (λ m. m.placed.tensor.flux) net.members) in
+    record { group = net.group; legs = legs; flux = flux; blocks = filter is_filled (all_blocks (value net) legs (admitted net.group legs flux)) }
 
--- the most multiplications; none where there is no tree
-abbrev pub cost_of : Job → List ℕ → ℕ
-cost_of job bytes = if nat_lt most_bytes (length bytes) then 0 else option_map_or (cost_of_tree job) (tree_of bytes) 0
+-- the value of the network that the bytes say, or their first fault, or the first step that passes
+abbrev pub Contracts : List ℕ → Outcome → Type 0
+Contracts bytes (refused f) = IsFirstFault bytes f
+Contracts bytes (passed step at offset) =
+    (net : NetworkValue) × IsNetworkIn bytes net × IsPassingPlace net step at offset
+Contracts bytes (answered text) = (net : NetworkValue) × IsNetworkIn bytes net × (first_wide net ≡ None) × (passing_place net ≡ None) × (text ≡ tensor_text (value_tensor net))
+
+-- the plan of the network that the bytes say, or their first fault
+abbrev pub Plans : List ℕ → Outcome → Type 0
+Plans bytes (refused f) = IsFirstFault bytes f
+Plans bytes (passed step at offset) = ⊥
+Plans bytes (answered text) = (net : NetworkValue) × IsNetworkIn bytes net × (first_wide net ≡ None) × (text ≡ plan_text (planned net))
+
+-- what the job comes to on these bytes
+abbrev pub ComesTo : Job → List ℕ → Outcome → Type 0
+ComesTo (Contract workers) bytes o = Contracts bytes o
+ComesTo Plan bytes o = Plans bytes o
+ComesTo Mpo bytes o = ⊥
+ComesTo (Overlap workers) bytes o = ⊥
+ComesTo (Expect workers) bytes o = ⊥
+ComesTo (Gen seed workers) bytes o = ⊥
+
+-- the most multiplications of the job, where its document is well formed
+abbrev pub Costs : Job → List ℕ → ℕ → Type 0
+Costs (Contract workers) bytes n = (net : NetworkValue) × IsNetworkIn bytes net × (first_wide net ≡ None) × (n ≡ cost_of_plan net)
+Costs Plan bytes n = ⊥
+Costs Mpo bytes n = ⊥
+Costs (Overlap workers) bytes n = ⊥
+Costs (Expect workers) bytes n = ⊥
+Costs (Gen seed workers) bytes n = ⊥
+
+-- how many multiplications were done: none, or where the document is well formed at most its cost
+unfoldable pub Multiplies : Job → List ℕ → ℕ → ℕ → Type 0
+Multiplies job bytes before now = (now ≡ before) ⊎ ((n : ℕ) × Costs job bytes n × (now ≤ before + n))

@@ -1,46 +1,46 @@
 //! One command, from words and bytes to a text and a status.
-ghost use Rattle.std.specs.Prelude.{◌≡◌, ℕ, ◌+◌, ◌<◌, ◌≤◌, ◌⊎◌, List, Option, Some, None, Ok, Err, false, IfOk, IfErr, IfSome, map, string_bytes, length};
+ghost use Rattle.std.specs.Prelude.{◌≡◌, ℕ, ◌+◌, ◌<◌, ◌≤◌, ◌⊎◌, List, Option, Some, None, Ok, Err, true, false, IfOk, IfErr, IfSome, map, string_bytes, length};
 ghost use Rattle.std.specs.Io.KnownBytes.{Keeps, Consumes, Appends, IsAtEnd};
 ghost use Rattle.qn_outside.specs.Faults.{Rose};
-ghost use Rattle.qn_doc.specs.Faults.{fault};
+ghost use Rattle.qn_parts.specs.Faults.{fault};
 ghost use Rattle.qn_words.specs.declared.words.Job.{Job};
-ghost use Rattle.qn_words.specs.Words.{job_of};
-ghost use Rattle.qn_cli.specs.Outcomes.{outcome_of, answered, refused, unbuilt, is_built, built_job, cost_of, most_bytes};
-ghost use Rattle.qn_cli.specs.Answers.{Tells, IsRefusal, IsStatusOf, EndsOn};
+ghost use Rattle.qn_words.specs.Words.{HasWorkers, job_of};
+ghost use Rattle.qn_cli.specs.Outcomes.{ComesTo, Multiplies, Outcome, answered, is_built, built_job};
+ghost use Rattle.qn_cli.specs.Answers.{Refuses, IsStatusOf, EndsOn};
 ghost use Rattle.qn_cli.specs.Lines.{line_of, TellsLine};
 
-use crate::contraction::contract;
+use crate::networks::{contract, plan_of};
 use crate::status::Status;
 use crate::tell::tell;
-use qn_doc::{DocFault, Fault, read_tree};
 use qn_gauss::Steps;
 use qn_outside::{ReadAllFault, Sink, Source, read_all, write_all};
 use qn_pair::Gate;
+use qn_parts::Fault;
 use qn_words::{Job, read_words};
 use std::alloc::Global;
 use std::sync::ledger::Ledger;
 use std::thread::Threads;
 
 /// The text that answers the bytes, or the status in its place.
-fn text_for<L: Ledger>(
+#[tactic(auto, using(crate::proofs::Costs::nothing))]
+fn text_for<G: Gate, L: Ledger, R: Threads + Sync>(
+    rt: &R,
     alloc: Global,
     job: Job,
+    gate: &G,
     bytes: &[u8],
     steps: &mut Steps<L>,
 ) -> Result<Vec<u8>, Status>
-    requires { length bytes.now ≤ most_bytes }
-    ensures text { IfOk result (λ text. outcome_of job bytes.now ≡ answered text.items) }
-    ensures status { IfErr result (λ s. IsRefusal s × Tells job s bytes.now) }
-    ensures cost { steps.new ≤ steps.old + cost_of job bytes.now }
+    requires built { is_built job ≡ true }
+    requires workers { HasWorkers job }
+    ensures text { IfOk result (λ text. ComesTo job bytes.now (answered text.items)) }
+    ensures status { IfErr result (Refuses job bytes.now) }
+    ensures cost { Multiplies job bytes.now steps.old steps.new }
 {
-    let tree = match read_tree(alloc, bytes) {
-        Ok(tree) => tree,
-        Err(DocFault::Bad(fault)) => return Err(Status::Malformed { fault }),
-        Err(DocFault::Memory) => return Err(Status::Memory),
-    };
     match job {
-        Job::Contract { workers } => contract(alloc, workers, &tree, steps),
-        _ => Err(Status::NotBuilt),
+        Job::Contract { workers } => contract(rt, alloc, workers, gate, bytes, steps),
+        Job::Plan => plan_of(alloc, bytes),
+        _ => Err(Status::Memory),
     }
 }
 
@@ -53,13 +53,18 @@ fn too_long() -> Status
 }
 
 /// Reads, answers and writes.
-fn attempt<S: Source, O: Sink, L: Ledger>(
+#[tactic(auto, using(crate::proofs::Costs::nothing))]
+fn attempt<S: Source, O: Sink, G: Gate, L: Ledger, R: Threads + Sync>(
+    rt: &R,
     alloc: Global,
     job: Job,
     source: &mut S,
     out: &mut O,
+    gate: &G,
     steps: &mut Steps<L>,
 ) -> Status
+    requires built { is_built job ≡ true }
+    requires workers { HasWorkers job }
     ensures bytes { (bytes : List ℕ) × EndsOn job (S.left source.old) (S.left source.new)
         (O.held out.old) (O.held out.new) steps.old steps.new result bytes }
     ensures read_fault { result ≡ Status.ReadFault → Rose (S.faults source.old) (S.faults source.new) }
@@ -71,7 +76,7 @@ fn attempt<S: Source, O: Sink, L: Ledger>(
         Err(ReadAllFault::TooLong) => return too_long(),
         Err(ReadAllFault::Memory) => return Status::Memory,
     };
-    let text = match text_for(alloc, job, bytes.as_slice(), steps) {
+    let text = match text_for(rt, alloc, job, gate, bytes.as_slice(), steps) {
         Ok(text) => text,
         Err(status) => return status,
     };
@@ -85,15 +90,17 @@ fn attempt<S: Source, O: Sink, L: Ledger>(
 fn is_built(job: Job) -> bool
     ensures { result ≡ is_built job }
 {
-    matches!(job, Job::Contract { .. })
+    matches!(job, Job::Contract { .. } | Job::Plan)
 }
 
 /// Does what the words ask for.
-fn obey<S: Source, O: Sink, L: Ledger>(
+fn obey<S: Source, O: Sink, G: Gate, L: Ledger, R: Threads + Sync>(
+    rt: &R,
     alloc: Global,
     words: &[String],
     source: &mut S,
     out: &mut O,
+    gate: &G,
     steps: &mut Steps<L>,
 ) -> Status
     ensures usage { (place : ℕ) → job_of (map string_bytes words.now) ≡ Err place
@@ -107,7 +114,7 @@ fn obey<S: Source, O: Sink, L: Ledger>(
     ensures write_fault { result ≡ Status.WriteFault → Rose (O.faults out.old) (O.faults out.new) }
 {
     match read_words(words) {
-        Ok(job) if is_built(job) => attempt(alloc, job, source, out, steps),
+        Ok(job) if is_built(job) => attempt(rt, alloc, job, source, out, gate, steps),
         Ok(_) => Status::NotBuilt,
         Err(word) => Status::Usage { word },
     }
@@ -141,15 +148,15 @@ pub fn run<S: Source, O: Sink, E: Sink, G: Gate, L: Ledger, R: Threads + Sync>(
 
     // Where the source tells its bytes, they have an answer and nothing failed: the whole text, or want of memory.
     ensures complete { IfSome (S.left source.old) (λ bytes. (job : Job) (text : List ℕ)
-        → built_job (job_of (map string_bytes words.now)) ≡ Some job → outcome_of job bytes ≡ answered text
+        → built_job (job_of (map string_bytes words.now)) ≡ Some job → ComesTo job bytes (answered text)
         → ¬ Rose (S.faults source.old) (S.faults source.new) → ¬ Rose (O.faults out.old) (O.faults out.new)
         → ((result ≡ Status.Done) × Appends (O.held out.old) (O.held out.new) text) ⊎ (result ≡ Status.Memory)) }
 
     // Where the source tells its bytes and no read failed, the status is the one that they ask for, or want of memory.
-    ensures exact { IfSome (S.left source.old) (λ bytes. (job : Job)
-        → built_job (job_of (map string_bytes words.now)) ≡ Some job
+    ensures exact { IfSome (S.left source.old) (λ bytes. (job : Job) (outcome : Outcome)
+        → built_job (job_of (map string_bytes words.now)) ≡ Some job → ComesTo job bytes outcome
         → ¬ Rose (S.faults source.old) (S.faults source.new)
-        → IsStatusOf (outcome_of job bytes) result ⊎ (result ≡ Status.Memory)) }
+        → IsStatusOf outcome result ⊎ (result ≡ Status.Memory)) }
 
     // A fault of the source or of the sink is told only where its count rose.
     ensures read_fault { result ≡ Status.ReadFault → Rose (S.faults source.old) (S.faults source.new) }
@@ -159,7 +166,7 @@ pub fn run<S: Source, O: Sink, E: Sink, G: Gate, L: Ledger, R: Threads + Sync>(
     ensures line { TellsLine (E.held err.old) (E.held err.new) (E.faults err.old) (E.faults err.new) (line_of result) }
     ensures silent { result ≡ Status.Done → err.new ≡ err.old }
 {
-    let status = obey(alloc, words, source, out, steps);
+    let status = obey(rt, alloc, words, source, out, gate, steps);
     let _ = tell(err, &status);
     status
 }

@@ -2,12 +2,11 @@
 #![tactic(auto)]
 
 mod command;
-mod contraction;
+mod networks;
 mod status;
 mod tell;
 #[cfg(test)]
 mod tests;
-mod two_tensors;
 
 pub use command::run;
 pub use qn_pair::{Gate, OpenGate};

@@ -1,8 +1,8 @@
 ghost use Rattle.std.specs.Prelude.{◌≡◌};
 ghost use Rattle.qn_cli.specs.Statuses.{exit_number};
 
-use qn_doc::Fault;
 use qn_index::Tuple;
+use qn_parts::Fault;
 
 /// How a call ends.
 #[derive(Debug, Drop)]

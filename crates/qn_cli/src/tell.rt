@@ -7,8 +7,8 @@ ghost use Rattle.qn_cli.specs.Lines.{joined, numbers_after, fault_line, passed_l
 
 use crate::status::Status;
 use itoa::Buffer;
-use qn_doc::Fault;
 use qn_outside::{Sink, WriteFault, write_all};
+use qn_parts::Fault;
 
 /// Writes the pieces, one after another.
 fn write_pieces<E: Sink>(err: &mut E, pieces: &[&[u8]]) -> Result<(), WriteFault>

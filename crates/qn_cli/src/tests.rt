@@ -3,10 +3,10 @@ ghost use Rattle.std.specs.Prelude.{◌≡◌, ◌<◌};
 use crate::status::Status;
 use crate::tell::tell;
 use crate::{OpenGate, run};
-use qn_doc::Fault;
 use qn_gauss::Steps;
 use qn_index::Tuple;
 use qn_outside::{MemSink, MemSource};
+use qn_parts::Fault;
 use std::alloc::{AllocError, Global};
 use std::marker::Brand;
 use std::sync::ledger::{Blank, Ledger};
@@ -22,26 +22,115 @@ const CUT: &str =
 const DOUBLED: &str =
     "{\"group\":[],\"tensors\":[{\"legs\":[{\"dir\":\"out\",\"sectors\":[[[],2]]}],\"flux\":[],\"blocks\":[[[0],[1,2]]],\"labels\":[1]},{\"legs\":[{\"dir\":\"in\",\"sectors\":[[[],2]]}],\"flux\":[],\"blocks\":[[[0],[3,4]]],\"labels\":[1]}]}{}";
 
-const LARGEST: &str =
-    "{\"group\":[],\"tensors\":[{\"legs\":[{\"dir\":\"out\",\"sectors\":[[[],1]]}],\"flux\":[],\"blocks\":[[[0],[1000000000]]],\"labels\":[1]},{\"legs\":[{\"dir\":\"in\",\"sectors\":[[[],1]]}],\"flux\":[],\"blocks\":[[[0],[-1000000000]]],\"labels\":[1]}]}";
-
-const TOO_LARGE: &str =
-    "{\"group\":[],\"tensors\":[{\"legs\":[{\"dir\":\"out\",\"sectors\":[[[],1]]}],\"flux\":[],\"blocks\":[[[0],[1000000001]]],\"labels\":[1]},{\"legs\":[{\"dir\":\"in\",\"sectors\":[[[],1]]}],\"flux\":[],\"blocks\":[[[0],[-1000000000]]],\"labels\":[1]}]}";
-
-const CANCELLING: &str =
-    "{\"group\":[],\"tensors\":[{\"legs\":[{\"dir\":\"in\",\"sectors\":[[[],2]]}],\"flux\":[],\"blocks\":[[[0],[2,1]]],\"labels\":[1]},{\"legs\":[{\"dir\":\"out\",\"sectors\":[[[],2]]}],\"flux\":[],\"blocks\":[[[0],[3,-6]]],\"labels\":[1]}]}";
-
-const SAME_ARROWS: &str =
-    "{\"group\":[],\"tensors\":[{\"legs\":[{\"dir\":\"in\",\"sectors\":[[[],1]]}],\"flux\":[],\"blocks\":[[[0],[2]]],\"labels\":[1]},{\"legs\":[{\"dir\":\"in\",\"sectors\":[[[],1]]}],\"flux\":[],\"blocks\":[[[0],[3]]],\"labels\":[1]}]}";
-
-const OTHER_GROUP: &str = "{\"group\":[1]}";
-
 const ELEVEN: &str = "{\"blocks\":[[[],[[\"11\",\"0\"]]]],\"flux\":[],\"group\":[],\"legs\":[]}\n";
 
-const LARGEST_TEXT: &str =
-    "{\"blocks\":[[[],[[\"-1000000000000000000\",\"0\"]]]],\"flux\":[],\"group\":[],\"legs\":[]}\n";
+const EVEN_VECTORS: &str =
+    "{\"group\":[{\"fermion\":false,\"kind\":\"u1\"}],\"tensors\":[{\"legs\":[{\"dir\":\"out\",\"sectors\":[[[0],2]]}],\"flux\":[0],\"blocks\":[[[0],[1,2]]],\"labels\":[1]},{\"legs\":[{\"dir\":\"in\",\"sectors\":[[[0],2]]}],\"flux\":[0],\"blocks\":[[[0],[3,4]]],\"labels\":[1]}]}";
 
-const ZERO: &str = "{\"blocks\":[],\"flux\":[],\"group\":[],\"legs\":[]}\n";
+const ODD_PAIR: &str =
+    "{\"group\":[{\"fermion\":true,\"kind\":\"u1\"}],\"tensors\":[{\"legs\":[{\"dir\":\"out\",\"sectors\":[[[1],1]]}],\"flux\":[1],\"blocks\":[[[0],[2]]],\"labels\":[1]},{\"legs\":[{\"dir\":\"in\",\"sectors\":[[[1],1]]}],\"flux\":[-1],\"blocks\":[[[0],[3]]],\"labels\":[1]}]}";
+
+const ODD_PAIR_TURNED: &str =
+    "{\"group\":[{\"fermion\":true,\"kind\":\"u1\"}],\"tensors\":[{\"legs\":[{\"dir\":\"in\",\"sectors\":[[[1],1]]}],\"flux\":[-1],\"blocks\":[[[0],[3]]],\"labels\":[1]},{\"legs\":[{\"dir\":\"out\",\"sectors\":[[[1],1]]}],\"flux\":[1],\"blocks\":[[[0],[2]]],\"labels\":[1]}]}";
+
+const TRACE: &str =
+    "{\"group\":[{\"fermion\":true,\"kind\":\"u1\"}],\"tensors\":[{\"legs\":[{\"dir\":\"in\",\"sectors\":[[[0],1],[[1],1]]},{\"dir\":\"out\",\"sectors\":[[[0],1],[[1],1]]}],\"flux\":[0],\"blocks\":[[[0,0],[2]],[[1,1],[3]]],\"labels\":[1,1]}]}";
+
+const SUPERTRACE: &str =
+    "{\"group\":[{\"fermion\":true,\"kind\":\"u1\"}],\"tensors\":[{\"legs\":[{\"dir\":\"out\",\"sectors\":[[[0],1],[[1],1]]},{\"dir\":\"in\",\"sectors\":[[[0],1],[[1],1]]}],\"flux\":[0],\"blocks\":[[[0,0],[2]],[[1,1],[3]]],\"labels\":[1,1]}]}";
+
+const ODD_LEGS_EXCHANGED: &str =
+    "{\"group\":[{\"fermion\":true,\"kind\":\"u1\"}],\"tensors\":[{\"legs\":[{\"dir\":\"out\",\"sectors\":[[[0],1],[[1],1]]},{\"dir\":\"out\",\"sectors\":[[[0],1],[[1],1]]}],\"flux\":[2],\"blocks\":[[[1,1],[5]]],\"labels\":[-2,-1]}]}";
+
+const EVEN_LEGS_EXCHANGED: &str =
+    "{\"group\":[{\"fermion\":true,\"kind\":\"u1\"}],\"tensors\":[{\"legs\":[{\"dir\":\"out\",\"sectors\":[[[0],1],[[1],1]]},{\"dir\":\"out\",\"sectors\":[[[0],1],[[1],1]]}],\"flux\":[0],\"blocks\":[[[0,0],[7]]],\"labels\":[-2,-1]}]}";
+
+const TWO_LINES: &str =
+    "{\"group\":[{\"fermion\":true,\"kind\":\"u1\"}],\"tensors\":[{\"legs\":[{\"dir\":\"out\",\"sectors\":[[[1],1]]},{\"dir\":\"out\",\"sectors\":[[[1],1]]}],\"flux\":[2],\"blocks\":[[[0,0],[1]]],\"labels\":[1,2]},{\"legs\":[{\"dir\":\"in\",\"sectors\":[[[1],1]]},{\"dir\":\"in\",\"sectors\":[[[1],1]]}],\"flux\":[-2],\"blocks\":[[[0,0],[1]]],\"labels\":[1,2]}]}";
+
+const TWO_LINES_CROSSED: &str =
+    "{\"group\":[{\"fermion\":true,\"kind\":\"u1\"}],\"tensors\":[{\"legs\":[{\"dir\":\"out\",\"sectors\":[[[1],1]]},{\"dir\":\"out\",\"sectors\":[[[1],1]]}],\"flux\":[2],\"blocks\":[[[0,0],[1]]],\"labels\":[1,2]},{\"legs\":[{\"dir\":\"in\",\"sectors\":[[[1],1]]},{\"dir\":\"in\",\"sectors\":[[[1],1]]}],\"flux\":[-2],\"blocks\":[[[0,0],[1]]],\"labels\":[2,1]}]}";
+
+const TWO_LINES_BACKWARDS: &str =
+    "{\"group\":[{\"fermion\":true,\"kind\":\"u1\"}],\"tensors\":[{\"legs\":[{\"dir\":\"out\",\"sectors\":[[[1],1]]},{\"dir\":\"out\",\"sectors\":[[[1],1]]}],\"flux\":[2],\"blocks\":[[[0,0],[1]]],\"labels\":[1,2]},{\"legs\":[{\"dir\":\"in\",\"sectors\":[[[1],1]]},{\"dir\":\"in\",\"sectors\":[[[1],1]]}],\"flux\":[-2],\"blocks\":[[[0,0],[1]]],\"labels\":[1,2]}],\"order\":[2,1]}";
+
+const TWO_LINES_CROSSED_BACKWARDS: &str =
+    "{\"group\":[{\"fermion\":true,\"kind\":\"u1\"}],\"tensors\":[{\"legs\":[{\"dir\":\"out\",\"sectors\":[[[1],1]]},{\"dir\":\"out\",\"sectors\":[[[1],1]]}],\"flux\":[2],\"blocks\":[[[0,0],[1]]],\"labels\":[1,2]},{\"legs\":[{\"dir\":\"in\",\"sectors\":[[[1],1]]},{\"dir\":\"in\",\"sectors\":[[[1],1]]}],\"flux\":[-2],\"blocks\":[[[0,0],[1]]],\"labels\":[2,1]}],\"order\":[2,1]}";
+
+const ODD_TENSOR_BETWEEN: &str =
+    "{\"group\":[{\"fermion\":true,\"kind\":\"u1\"}],\"tensors\":[{\"legs\":[{\"dir\":\"out\",\"sectors\":[[[1],1]]}],\"flux\":[1],\"blocks\":[[[0],[1]]],\"labels\":[1]},{\"legs\":[{\"dir\":\"out\",\"sectors\":[[[1],1]]}],\"flux\":[1],\"blocks\":[[[0],[1]]],\"labels\":[-1]},{\"legs\":[{\"dir\":\"in\",\"sectors\":[[[1],1]]}],\"flux\":[-1],\"blocks\":[[[0],[1]]],\"labels\":[1]}]}";
+
+const NO_LEGS: &str =
+    "{\"group\":[{\"fermion\":false,\"kind\":\"u1\"}],\"tensors\":[{\"legs\":[],\"flux\":[1],\"blocks\":[],\"labels\":[]}]}";
+
+const TOO_WIDE: &str =
+    "{\"group\":[{\"fermion\":false,\"kind\":\"u1\"}],\"tensors\":[{\"legs\":[{\"dir\":\"out\",\"sectors\":[[[0],4096]]}],\"flux\":[0],\"blocks\":[],\"labels\":[-1]},{\"legs\":[{\"dir\":\"out\",\"sectors\":[[[0],2048]]}],\"flux\":[0],\"blocks\":[],\"labels\":[-2]}]}";
+
+const JUST_NOT_TOO_WIDE: &str =
+    "{\"group\":[{\"fermion\":false,\"kind\":\"u1\"}],\"tensors\":[{\"legs\":[{\"dir\":\"out\",\"sectors\":[[[0],4096]]}],\"flux\":[0],\"blocks\":[],\"labels\":[-1]},{\"legs\":[{\"dir\":\"out\",\"sectors\":[[[0],1024]]}],\"flux\":[0],\"blocks\":[],\"labels\":[-2]}]}";
+
+const IDENTITIES: &str =
+    "{\"group\":[{\"fermion\":false,\"kind\":\"u1\"}],\"tensors\":[{\"legs\":[{\"dir\":\"in\",\"sectors\":[[[0],1],[[1],1]]},{\"dir\":\"out\",\"sectors\":[[[0],1],[[1],1]]}],\"flux\":[0],\"blocks\":[[[0,0],[1]],[[1,1],[1]]],\"labels\":[-1,1]},{\"legs\":[{\"dir\":\"in\",\"sectors\":[[[0],1],[[1],1]]},{\"dir\":\"out\",\"sectors\":[[[0],1],[[1],1]]}],\"flux\":[0],\"blocks\":[[[0,0],[1]],[[1,1],[1]]],\"labels\":[1,-2]}]}";
+
+const THREE_LEGS: &str =
+    "{\"group\":[{\"fermion\":false,\"kind\":\"u1\"}],\"tensors\":[{\"legs\":[{\"dir\":\"out\",\"sectors\":[[[0],2]]},{\"dir\":\"out\",\"sectors\":[[[0],1]]},{\"dir\":\"out\",\"sectors\":[[[0],3]]}],\"flux\":[0],\"blocks\":[[[0,0,0],[1,2,3,4,5,6]]],\"labels\":[-3,-1,-2]}]}";
+
+const PAST_THE_LIMIT: &str =
+    "{\"group\":[{\"fermion\":false,\"kind\":\"u1\"}],\"tensors\":[{\"legs\":[{\"dir\":\"out\",\"sectors\":[[[0],1]]}],\"flux\":[0],\"blocks\":[[[0],[\"85070591730234615865843651857942052864\"]]],\"labels\":[1]},{\"legs\":[{\"dir\":\"in\",\"sectors\":[[[0],1]]}],\"flux\":[0],\"blocks\":[[[0],[2]]],\"labels\":[1]}]}";
+
+const AT_THE_LIMIT: &str =
+    "{\"group\":[{\"fermion\":false,\"kind\":\"u1\"}],\"tensors\":[{\"legs\":[{\"dir\":\"out\",\"sectors\":[[[0],1]]}],\"flux\":[0],\"blocks\":[[[0],[\"170141183460469231731687303715884105727\"]]],\"labels\":[1]},{\"legs\":[{\"dir\":\"in\",\"sectors\":[[[0],1]]}],\"flux\":[0],\"blocks\":[[[0],[1]]],\"labels\":[1]}]}";
+
+const ENTRY_PAST_THE_LIMIT: &str =
+    "{\"group\":[{\"fermion\":false,\"kind\":\"u1\"}],\"tensors\":[{\"legs\":[{\"dir\":\"out\",\"sectors\":[[[0],1]]}],\"flux\":[0],\"blocks\":[[[0],[\"170141183460469231731687303715884105728\"]]],\"labels\":[1]},{\"legs\":[{\"dir\":\"in\",\"sectors\":[[[0],1]]}],\"flux\":[0],\"blocks\":[[[0],[1]]],\"labels\":[1]}]}";
+
+const CANCELLING: &str =
+    "{\"group\":[{\"fermion\":false,\"kind\":\"u1\"}],\"tensors\":[{\"legs\":[{\"dir\":\"out\",\"sectors\":[[[0],2]]}],\"flux\":[0],\"blocks\":[[[0],[\"85070591730234615865843651857942052864\",\"85070591730234615865843651857942052864\"]]],\"labels\":[1]},{\"legs\":[{\"dir\":\"in\",\"sectors\":[[[0],2]]}],\"flux\":[0],\"blocks\":[[[0],[1,-1]]],\"labels\":[1]}]}";
+
+const PASSING_BLOCK: &str =
+    "{\"group\":[{\"fermion\":false,\"kind\":\"u1\"}],\"tensors\":[{\"legs\":[{\"dir\":\"in\",\"sectors\":[[[0],1],[[1],1],[[2],1]]},{\"dir\":\"out\",\"sectors\":[[[0],1],[[1],1],[[2],1]]}],\"flux\":[0],\"blocks\":[[[0,0],[1]],[[1,1],[\"85070591730234615865843651857942052864\"]],[[2,2],[\"85070591730234615865843651857942052864\"]]],\"labels\":[-1,1]},{\"legs\":[{\"dir\":\"in\",\"sectors\":[[[0],1],[[1],1],[[2],1]]},{\"dir\":\"out\",\"sectors\":[[[0],1],[[1],1],[[2],1]]}],\"flux\":[0],\"blocks\":[[[0,0],[1]],[[1,1],[2]],[[2,2],[2]]],\"labels\":[1,-2]}]}";
+
+const OFF_FLUX: &str =
+    "{\"group\":[{\"fermion\":true,\"kind\":\"u1\"}],\"tensors\":[{\"legs\":[{\"dir\":\"out\",\"sectors\":[[[1],1]]}],\"flux\":[1],\"blocks\":[[[0],[1]]],\"labels\":[1]},{\"legs\":[{\"dir\":\"out\",\"sectors\":[[[1],1]]}],\"flux\":[0],\"blocks\":[[[0],[1]]],\"labels\":[-1]}]}";
+
+const STANDS_ONCE: &str =
+    "{\"group\":[{\"fermion\":true,\"kind\":\"u1\"}],\"tensors\":[{\"legs\":[{\"dir\":\"out\",\"sectors\":[[[1],1]]}],\"flux\":[1],\"blocks\":[[[0],[1]]],\"labels\":[1]},{\"legs\":[{\"dir\":\"out\",\"sectors\":[[[1],1]]}],\"flux\":[0],\"blocks\":[],\"labels\":[-1]}]}";
+
+const FAULT_OF_AN_EARLIER_TENSOR: &str =
+    "{\"group\":[{\"fermion\":true,\"kind\":\"u1\"}],\"tensors\":[{\"legs\":[{\"dir\":\"out\",\"sectors\":[[[1],1]]}],\"flux\":[0],\"blocks\":[[[0],[1]]],\"labels\":[1]},{\"legs\":[{\"dir\":\"out\",\"sectors\":[[[0],0]]}],\"flux\":[0],\"blocks\":[],\"labels\":[-1]}]}";
+
+const PARITY_GROUP: &str =
+    "{\"group\":[{\"fermion\":true,\"kind\":\"zn\",\"n\":2}],\"tensors\":[{\"legs\":[{\"dir\":\"out\",\"sectors\":[[[0],1],[[1],1]]},{\"dir\":\"out\",\"sectors\":[[[0],1],[[1],1]]}],\"flux\":[0],\"blocks\":[[[0,0],[7]],[[1,1],[5]]],\"labels\":[-2,-1]}]}";
+
+const ODD_FERMION: &str =
+    "{\"group\":[{\"fermion\":true,\"kind\":\"zn\",\"n\":3}],\"tensors\":[{\"legs\":[],\"flux\":[0],\"blocks\":[],\"labels\":[]}]}";
+
+const BAD_MODULUS: &str =
+    "{\"group\":[{\"fermion\":true,\"kind\":\"zn\",\"n\":1}],\"tensors\":[{\"legs\":[],\"flux\":[0],\"blocks\":[],\"labels\":[]}]}";
+
+const EQUAL_CHARGES: &str =
+    "{\"group\":[{\"fermion\":false,\"kind\":\"u1\"}],\"tensors\":[{\"legs\":[{\"dir\":\"out\",\"sectors\":[[[0],1],[[0],1]]}],\"flux\":[0],\"blocks\":[[[0],[1]],[[1],[2]]],\"labels\":[1]},{\"legs\":[{\"dir\":\"in\",\"sectors\":[[[0],1],[[0],1]]}],\"flux\":[0],\"blocks\":[[[0],[3]],[[1],[4]]],\"labels\":[1]}]}";
+
+const FUSED: &str =
+    "{\"group\":[{\"fermion\":true,\"kind\":\"u1\"}],\"tensors\":[{\"combine\":{\"dir\":\"out\",\"legs\":[{\"dir\":\"in\",\"sectors\":[[[1],1]]}],\"mode\":\"fuse\"},\"labels\":[-1,1]},{\"legs\":[{\"dir\":\"in\",\"sectors\":[[[1],1]]}],\"flux\":[-1],\"blocks\":[[[0],[3]]],\"labels\":[1]}]}";
+
+const FOUR_FACTORS: &str =
+    "{\"group\":[{\"fermion\":true,\"kind\":\"u1\"},{\"fermion\":false,\"kind\":\"u1\"},{\"fermion\":true,\"kind\":\"zn\",\"n\":2},{\"fermion\":false,\"kind\":\"zn\",\"n\":3}],\"tensors\":[{\"legs\":[],\"flux\":[0,0,0,0],\"blocks\":[[[],[[\"0\",\"-1\"]]]],\"labels\":[]}]}";
+
+const OTHER_KEY: &str =
+    "{\"group\":[{\"fermion\":true,\"kind\":\"u1\"},{\"fermion\":false,\"kind\":\"u1\"},{\"fermion\":true,\"kind\":\"zn\",\"n\":2},{\"fermion\":false,\"kind\":\"zn\",\"n\":3}],\"tensors\":[{\"legs\":[],\"flux\":[0,0,0,0],\"blocks\":[[[],[[\"0\",\"-1\"]]]],\"labels\":[]}],\"note\":\"x\"}";
+
+const FIVE_FACTORS: &str =
+    "{\"group\":[{\"fermion\":true,\"kind\":\"u1\"},{\"fermion\":false,\"kind\":\"u1\"},{\"fermion\":true,\"kind\":\"zn\",\"n\":2},{\"fermion\":false,\"kind\":\"zn\",\"n\":3},{\"fermion\":false,\"kind\":\"u1\"}],\"tensors\":[{\"legs\":[],\"flux\":[0,0,0,0,0],\"blocks\":[],\"labels\":[]}]}";
+
+const MATRIX_AND_VECTOR: &str =
+    "{\"group\":[],\"tensors\":[{\"legs\":[{\"dir\":\"out\",\"sectors\":[[[],2]]},{\"dir\":\"out\",\"sectors\":[[[],2]]}],\"flux\":[],\"blocks\":[[[0,0],[1,2,3,4]]],\"labels\":[-1,1]},{\"legs\":[{\"dir\":\"in\",\"sectors\":[[[],2]]}],\"flux\":[],\"blocks\":[[[0],[5,6]]],\"labels\":[1]}]}";
+
+const LARGE_ENTRIES: &str =
+    "{\"group\":[],\"tensors\":[{\"legs\":[{\"dir\":\"out\",\"sectors\":[[[],2]]}],\"flux\":[],\"blocks\":[[[0],[-9223372036854775808,-9223372036854775808]]],\"labels\":[1]},{\"legs\":[{\"dir\":\"in\",\"sectors\":[[[],2]]}],\"flux\":[],\"blocks\":[[[0],[-9223372036854775808,-9223372036854775808]]],\"labels\":[1]}]}";
+
+const LARGEST_PRODUCT: &str =
+    "{\"group\":[],\"tensors\":[{\"legs\":[{\"dir\":\"out\",\"sectors\":[[[],1]]}],\"flux\":[],\"blocks\":[[[0],[-9223372036854775808]]],\"labels\":[1]},{\"legs\":[{\"dir\":\"in\",\"sectors\":[[[],1]]}],\"flux\":[],\"blocks\":[[[0],[-9223372036854775808]]],\"labels\":[1]}]}";
 
 const NOT_BUILT: &str = "qntn: not built\n";
 
@@ -49,13 +138,22 @@ const TOO_LONG: &str = "qntn: malformed F1 tensor 0 part 0 item 0\n";
 
 const NOT_JSON: &str = "qntn: malformed F2 tensor 0 part 0 item 0\n";
 
+// The words of a line, between single blanks.
+fn split(alloc: Global, line: &str) -> Result<Vec<String>, AllocError> {
+    let mut words = Vec::new(alloc);
+    for word in line.split(' ') {
+        words.push(String::from_str(alloc, word)?)?;
+    }
+    Ok(words)
+}
+
 // How one call ends over memory, with ten bytes a read and a write, where the reads and writes of
 // these numbers, from 1, fail.
 fn ends<L: Ledger, R: Threads + Sync>(
     blank: Blank,
     rt: &R,
     alloc: Global,
-    word: &str,
+    line: &str,
     bytes: Vec<u8>,
     failing: [u64; 3],
 ) -> Result<(Status, MemSink, MemSink), AllocError>
@@ -64,10 +162,10 @@ fn ends<L: Ledger, R: Threads + Sync>(
     requires some { 0 < L.parts }
 {
     let [read, write, error] = failing;
-    let words = vec![in alloc; String::from_str(alloc, word)?]?;
+    let words = split(alloc, line)?;
     let piece = if bytes.len() < 1000 { 10 } else { bytes.len() };
     let mut source = MemSource::new(bytes, piece, vec![in alloc; read]?);
-    let mut out = MemSink::new(alloc, 200, 10, vec![in alloc; write]?)?;
+    let mut out = MemSink::new(alloc, 1000, 10, vec![in alloc; write]?)?;
     let mut err = MemSink::new(alloc, 200, 10, vec![in alloc; error]?)?;
     let mut steps = Steps::<L>::new(blank);
     let status = run(
@@ -83,11 +181,11 @@ fn ends<L: Ledger, R: Threads + Sync>(
     Ok((status, out, err))
 }
 
-// A row of the table: the word, the document, the numbers of the reads and writes that fail, and
+// A row of the table: the words, the document, the numbers of the reads and writes that fail, and
 // what is wanted.
 #[derive(Clone, Copy)]
 struct Row {
-    word: &'static str,
+    words: &'static str,
     text: &'static str,
     failing: [u64; 3],
     exit: u8,
@@ -95,10 +193,16 @@ struct Row {
     line: &'static str,
 }
 
-fn wanted(text: &'static str, exit: u8, held: &'static str, line: &'static str) -> Row {
+fn wanted(
+    words: &'static str,
+    text: &'static str,
+    exit: u8,
+    held: &'static str,
+    line: &'static str,
+) -> Row {
     let failing = [0, 0, 0];
     Row {
-        word: "contract",
+        words,
         text,
         failing,
         exit,
@@ -107,48 +211,265 @@ fn wanted(text: &'static str, exit: u8, held: &'static str, line: &'static str) 
     }
 }
 
+fn written(words: &'static str, text: &'static str, held: &'static str) -> Row {
+    wanted(words, text, 0, held, "")
+}
+
+fn refused(words: &'static str, text: &'static str, exit: u8, line: &'static str) -> Row {
+    wanted(words, text, exit, "", line)
+}
+
 fn failing(failing: [u64; 3], row: Row) -> Row {
     Row { failing, ..row }
 }
 
 // Words for which nothing is read, though the first read would fail.
-fn unread(word: &'static str, exit: u8, line: &'static str) -> Row {
-    let row = wanted(TWO, exit, "", line);
-    let failing = [1, 0, 0];
-    Row {
-        word,
-        failing,
-        ..row
-    }
+fn unread(words: &'static str, exit: u8, line: &'static str) -> Row {
+    failing([1, 0, 0], refused(words, TWO, exit, line))
 }
 
-fn documents() -> [Row; 9] {
+fn values() -> [Row; 23] {
     [
-        wanted(TWO, 0, ELEVEN, ""),
-        wanted(LARGEST, 0, LARGEST_TEXT, ""),
-        wanted(CANCELLING, 0, ZERO, ""),
-        wanted(TOO_LARGE, 8, "", NOT_BUILT),
-        wanted(SAME_ARROWS, 8, "", NOT_BUILT),
-        wanted(OTHER_GROUP, 8, "", NOT_BUILT),
-        wanted("", 3, "", NOT_JSON),
-        wanted(CUT, 3, "", NOT_JSON),
-        wanted(DOUBLED, 3, "", NOT_JSON),
+        written(
+            "contract",
+            EVEN_VECTORS,
+            "{\"blocks\":[[[],[[\"11\",\"0\"]]]],\"flux\":[0],\"group\":[{\"fermion\":false,\"kind\":\"u1\"}],\"legs\":[]}\n",
+        ),
+        written(
+            "contract",
+            ODD_PAIR,
+            "{\"blocks\":[[[],[[\"-6\",\"0\"]]]],\"flux\":[0],\"group\":[{\"fermion\":true,\"kind\":\"u1\"}],\"legs\":[]}\n",
+        ),
+        written(
+            "contract",
+            ODD_PAIR_TURNED,
+            "{\"blocks\":[[[],[[\"6\",\"0\"]]]],\"flux\":[0],\"group\":[{\"fermion\":true,\"kind\":\"u1\"}],\"legs\":[]}\n",
+        ),
+        written(
+            "contract",
+            TRACE,
+            "{\"blocks\":[[[],[[\"5\",\"0\"]]]],\"flux\":[0],\"group\":[{\"fermion\":true,\"kind\":\"u1\"}],\"legs\":[]}\n",
+        ),
+        written(
+            "contract",
+            SUPERTRACE,
+            "{\"blocks\":[[[],[[\"-1\",\"0\"]]]],\"flux\":[0],\"group\":[{\"fermion\":true,\"kind\":\"u1\"}],\"legs\":[]}\n",
+        ),
+        written(
+            "contract",
+            ODD_LEGS_EXCHANGED,
+            "{\"blocks\":[[[1,1],[[\"-5\",\"0\"]]]],\"flux\":[2],\"group\":[{\"fermion\":true,\"kind\":\"u1\"}],\"legs\":[{\"dir\":\"out\",\"sectors\":[[[0],1],[[1],1]]},{\"dir\":\"out\",\"sectors\":[[[0],1],[[1],1]]}]}\n",
+        ),
+        written(
+            "contract",
+            EVEN_LEGS_EXCHANGED,
+            "{\"blocks\":[[[0,0],[[\"7\",\"0\"]]]],\"flux\":[0],\"group\":[{\"fermion\":true,\"kind\":\"u1\"}],\"legs\":[{\"dir\":\"out\",\"sectors\":[[[0],1],[[1],1]]},{\"dir\":\"out\",\"sectors\":[[[0],1],[[1],1]]}]}\n",
+        ),
+        written(
+            "contract",
+            TWO_LINES,
+            "{\"blocks\":[[[],[[\"-1\",\"0\"]]]],\"flux\":[0],\"group\":[{\"fermion\":true,\"kind\":\"u1\"}],\"legs\":[]}\n",
+        ),
+        written(
+            "contract",
+            TWO_LINES_CROSSED,
+            "{\"blocks\":[[[],[[\"1\",\"0\"]]]],\"flux\":[0],\"group\":[{\"fermion\":true,\"kind\":\"u1\"}],\"legs\":[]}\n",
+        ),
+        written(
+            "contract",
+            TWO_LINES_BACKWARDS,
+            "{\"blocks\":[[[],[[\"-1\",\"0\"]]]],\"flux\":[0],\"group\":[{\"fermion\":true,\"kind\":\"u1\"}],\"legs\":[]}\n",
+        ),
+        written(
+            "contract",
+            ODD_TENSOR_BETWEEN,
+            "{\"blocks\":[[[0],[[\"1\",\"0\"]]]],\"flux\":[1],\"group\":[{\"fermion\":true,\"kind\":\"u1\"}],\"legs\":[{\"dir\":\"out\",\"sectors\":[[[1],1]]}]}\n",
+        ),
+        written(
+            "contract",
+            NO_LEGS,
+            "{\"blocks\":[],\"flux\":[1],\"group\":[{\"fermion\":false,\"kind\":\"u1\"}],\"legs\":[]}\n",
+        ),
+        written(
+            "contract",
+            JUST_NOT_TOO_WIDE,
+            "{\"blocks\":[],\"flux\":[0],\"group\":[{\"fermion\":false,\"kind\":\"u1\"}],\"legs\":[{\"dir\":\"out\",\"sectors\":[[[0],4096]]},{\"dir\":\"out\",\"sectors\":[[[0],1024]]}]}\n",
+        ),
+        written(
+            "contract",
+            IDENTITIES,
+            "{\"blocks\":[[[0,0],[[\"1\",\"0\"]]],[[1,1],[[\"1\",\"0\"]]]],\"flux\":[0],\"group\":[{\"fermion\":false,\"kind\":\"u1\"}],\"legs\":[{\"dir\":\"in\",\"sectors\":[[[0],1],[[1],1]]},{\"dir\":\"out\",\"sectors\":[[[0],1],[[1],1]]}]}\n",
+        ),
+        written(
+            "contract",
+            THREE_LEGS,
+            "{\"blocks\":[[[0,0,0],[[\"1\",\"0\"],[\"4\",\"0\"],[\"2\",\"0\"],[\"5\",\"0\"],[\"3\",\"0\"],[\"6\",\"0\"]]]],\"flux\":[0],\"group\":[{\"fermion\":false,\"kind\":\"u1\"}],\"legs\":[{\"dir\":\"out\",\"sectors\":[[[0],1]]},{\"dir\":\"out\",\"sectors\":[[[0],3]]},{\"dir\":\"out\",\"sectors\":[[[0],2]]}]}\n",
+        ),
+        written(
+            "contract",
+            AT_THE_LIMIT,
+            "{\"blocks\":[[[],[[\"170141183460469231731687303715884105727\",\"0\"]]]],\"flux\":[0],\"group\":[{\"fermion\":false,\"kind\":\"u1\"}],\"legs\":[]}\n",
+        ),
+        written(
+            "contract",
+            PARITY_GROUP,
+            "{\"blocks\":[[[0,0],[[\"7\",\"0\"]]],[[1,1],[[\"-5\",\"0\"]]]],\"flux\":[0],\"group\":[{\"fermion\":true,\"kind\":\"zn\",\"n\":2}],\"legs\":[{\"dir\":\"out\",\"sectors\":[[[0],1],[[1],1]]},{\"dir\":\"out\",\"sectors\":[[[0],1],[[1],1]]}]}\n",
+        ),
+        written(
+            "contract",
+            EQUAL_CHARGES,
+            "{\"blocks\":[[[],[[\"11\",\"0\"]]]],\"flux\":[0],\"group\":[{\"fermion\":false,\"kind\":\"u1\"}],\"legs\":[]}\n",
+        ),
+        written(
+            "contract",
+            FUSED,
+            "{\"blocks\":[[[0],[[\"3\",\"0\"]]]],\"flux\":[-1],\"group\":[{\"fermion\":true,\"kind\":\"u1\"}],\"legs\":[{\"dir\":\"out\",\"sectors\":[[[-1],1]]}]}\n",
+        ),
+        written(
+            "contract",
+            FOUR_FACTORS,
+            "{\"blocks\":[[[],[[\"0\",\"-1\"]]]],\"flux\":[0,0,0,0],\"group\":[{\"fermion\":true,\"kind\":\"u1\"},{\"fermion\":false,\"kind\":\"u1\"},{\"fermion\":true,\"kind\":\"zn\",\"n\":2},{\"fermion\":false,\"kind\":\"zn\",\"n\":3}],\"legs\":[]}\n",
+        ),
+        written(
+            "contract",
+            OTHER_KEY,
+            "{\"blocks\":[[[],[[\"0\",\"-1\"]]]],\"flux\":[0,0,0,0],\"group\":[{\"fermion\":true,\"kind\":\"u1\"},{\"fermion\":false,\"kind\":\"u1\"},{\"fermion\":true,\"kind\":\"zn\",\"n\":2},{\"fermion\":false,\"kind\":\"zn\",\"n\":3}],\"legs\":[]}\n",
+        ),
+        written(
+            "contract",
+            MATRIX_AND_VECTOR,
+            "{\"blocks\":[[[0],[[\"17\",\"0\"],[\"39\",\"0\"]]]],\"flux\":[],\"group\":[],\"legs\":[{\"dir\":\"out\",\"sectors\":[[[],2]]}]}\n",
+        ),
+        written(
+            "contract",
+            LARGEST_PRODUCT,
+            "{\"blocks\":[[[],[[\"85070591730234615865843651857942052864\",\"0\"]]]],\"flux\":[],\"group\":[],\"legs\":[]}\n",
+        ),
     ]
 }
 
-fn failures() -> [Row; 8] {
+fn plans() -> [Row; 5] {
     [
-        failing([2, 0, 0], wanted(TWO, 5, "", "qntn: read fault\n")),
+        written(
+            "plan",
+            SUPERTRACE,
+            "{\"cost\":0,\"steps\":[{\"cost\":0,\"kind\":\"trace\",\"labels\":[1],\"of\":[1]}]}\n",
+        ),
+        written(
+            "plan",
+            TWO_LINES_CROSSED_BACKWARDS,
+            "{\"cost\":1,\"steps\":[{\"cost\":1,\"kind\":\"pair\",\"labels\":[1,2],\"of\":[1,2]}]}\n",
+        ),
+        written(
+            "plan",
+            IDENTITIES,
+            "{\"cost\":2,\"steps\":[{\"cost\":2,\"kind\":\"pair\",\"labels\":[1],\"of\":[1,2]}]}\n",
+        ),
+        written("plan", THREE_LEGS, "{\"cost\":0,\"steps\":[]}\n"),
+        written(
+            "plan",
+            FUSED,
+            "{\"cost\":0,\"steps\":[{\"cost\":0,\"kind\":\"fuse\",\"labels\":[1],\"of\":[1,2]}]}\n",
+        ),
+    ]
+}
+
+fn refusals() -> [Row; 12] {
+    [
+        refused(
+            "contract",
+            TOO_WIDE,
+            3,
+            "qntn: malformed F27 tensor 0 part 1 item 0\n",
+        ),
+        refused(
+            "contract",
+            PAST_THE_LIMIT,
+            4,
+            "qntn: passed step 1 at [] offset 0\n",
+        ),
+        refused(
+            "contract",
+            ENTRY_PAST_THE_LIMIT,
+            3,
+            "qntn: malformed F19 tensor 1 part 1 item 1\n",
+        ),
+        refused(
+            "contract",
+            CANCELLING,
+            4,
+            "qntn: passed step 1 at [] offset 0\n",
+        ),
+        refused(
+            "contract",
+            PASSING_BLOCK,
+            4,
+            "qntn: passed step 1 at [1,1] offset 0\n",
+        ),
+        refused(
+            "contract",
+            OFF_FLUX,
+            3,
+            "qntn: malformed F16 tensor 2 part 1 item 0\n",
+        ),
+        refused(
+            "contract",
+            STANDS_ONCE,
+            3,
+            "qntn: malformed F22 tensor 0 part 0 item 1\n",
+        ),
+        refused(
+            "contract",
+            FAULT_OF_AN_EARLIER_TENSOR,
+            3,
+            "qntn: malformed F16 tensor 1 part 1 item 0\n",
+        ),
+        refused(
+            "contract",
+            ODD_FERMION,
+            3,
+            "qntn: malformed F6 tensor 0 part 1 item 0\n",
+        ),
+        refused(
+            "contract",
+            BAD_MODULUS,
+            3,
+            "qntn: malformed F5 tensor 0 part 1 item 0\n",
+        ),
+        refused(
+            "contract",
+            FIVE_FACTORS,
+            3,
+            "qntn: malformed F4 tensor 0 part 0 item 0\n",
+        ),
+        refused(
+            "contract",
+            LARGE_ENTRIES,
+            4,
+            "qntn: passed step 1 at [] offset 0\n",
+        ),
+    ]
+}
+
+// Failing sources and sinks, bytes that are no document, and words.
+fn failures() -> [Row; 13] {
+    [
+        written("contract --workers 64", TWO, ELEVEN),
+        refused("contract", "", 3, NOT_JSON),
+        refused("plan", CUT, 3, NOT_JSON),
+        refused("contract", DOUBLED, 3, NOT_JSON),
+        failing([2, 0, 0], refused("contract", TWO, 5, "qntn: read fault\n")),
         failing(
             [0, 2, 0],
-            wanted(TWO, 6, "{\"blocks\":", "qntn: write fault\n"),
+            wanted("contract", TWO, 6, "{\"blocks\":", "qntn: write fault\n"),
         ),
-        failing([0, 0, 1], wanted(OTHER_GROUP, 8, "", "")),
-        failing([0, 0, 2], wanted(OTHER_GROUP, 8, "", "qntn: not ")),
-        failing([0, 0, 1], wanted(TWO, 0, ELEVEN, "")),
-        unread("plan", 8, NOT_BUILT),
+        failing([0, 0, 1], refused("contract", CUT, 3, "")),
+        failing([0, 0, 2], refused("contract", CUT, 3, "qntn: malf")),
+        failing([0, 0, 1], written("contract", TWO, ELEVEN)),
+        unread("mpo", 8, NOT_BUILT),
         unread("solve", 2, "qntn: usage word 1\n"),
-        unread("gen", 2, "qntn: usage word 2\n"),
+        unread("plan --workers 2", 2, "qntn: usage word 2\n"),
+        unread("contract --workers 064", 2, "qntn: usage word 3\n"),
     ]
 }
 
@@ -164,7 +485,7 @@ fn ends_so<L: Ledger, R: Threads + Sync>(
     requires parts { blank.parts ≡ L.parts }
     requires some { 0 < L.parts }
 {
-    let (status, out, err) = ends::<L, R>(blank, rt, alloc, row.word, bytes, row.failing)?;
+    let (status, out, err) = ends::<L, R>(blank, rt, alloc, row.words, bytes, row.failing)?;
     Ok(
         status.exit_number() == row.exit
             && out.held() == row.held.as_bytes()
@@ -205,20 +526,28 @@ fn blanks_hold<L: Ledger, R: Threads + Sync>(
 
 #[test]
 fn answers(rt: HostRuntime) -> Result<(), Fail> {
-    for row in documents() {
+    for row in values() {
         let holds = holds::<Brand, _>(Blank::new(1), &rt, rt.alloc(), row)?;
-        assert!(rt; holds, "{}", row.text);
+        assert!(rt; holds, "{} {}", row.words, row.text);
+    }
+    for row in plans() {
+        let holds = holds::<Brand, _>(Blank::new(1), &rt, rt.alloc(), row)?;
+        assert!(rt; holds, "{} {}", row.words, row.text);
+    }
+    for row in refusals() {
+        let holds = holds::<Brand, _>(Blank::new(1), &rt, rt.alloc(), row)?;
+        assert!(rt; holds, "{} {}", row.words, row.text);
     }
     for row in failures() {
         let holds = holds::<Brand, _>(Blank::new(1), &rt, rt.alloc(), row)?;
-        assert!(rt; holds, "{} {:?}", row.text, row.failing);
+        assert!(rt; holds, "{} {} {:?}", row.words, row.text, row.failing);
     }
     Ok(())
 }
 
 #[test]
 fn too_long(rt: HostRuntime) -> Result<(), Fail> {
-    let row = wanted("", 3, "", TOO_LONG);
+    let row = refused("contract", "", 3, TOO_LONG);
     let holds = blanks_hold::<Brand, _>(Blank::new(1), &rt, rt.alloc(), row, 67_108_865)?;
     assert!(rt; holds);
     Ok(())
