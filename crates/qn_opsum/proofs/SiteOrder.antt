@@ -219,12 +219,16 @@ same_default [] i lt = absurd (omega arith)
 same_default (g ∷ gs) zero lt = refl
 same_default (g ∷ gs) (suc i) lt = same_default gs i (omega arith)
 
+-- the operators of a good term are on sites
+pub good_below : (ss : List SiteValue) (gs : List Named) → IsGood ss gs → AreBelow (length ss) (map (factor_of ss) gs)
+good_below ss gs good = below_from ss gs (λ i lt. let at = good_at ss gs i (factor_at gs i) good lt (same_default gs i lt) in (at.0, at.1))
+
 -- a term is its sorted term, with the sign of its odd operators' order
 pub sorted_string : (fs : List charge.Factor) (ss : List SiteValue) (gs hs : List Named) → AreSites fs ss → IsGood ss gs → IsSiteOrder gs hs → (t s : State) →
     string_of fs ss gs t s ≡ signed (is_odd (inversions (sites_of fs ss) (map (factor_of ss) gs))) (string_of fs ss hs t s)
 sorted_string fs ss gs hs h good o t s =
     normal_law (sites_of fs ss) (has_parities fs ss h) (map (factor_of ss) gs)
-    (below_from ss gs (λ i lt. let at = good_at ss gs i (factor_at gs i) good lt (same_default gs i lt) in (at.0, at.1))) t s
+    (good_below ss gs good) t s
     ∙ ap (λ xs. signed (is_odd (inversions (sites_of fs ss) (map (factor_of ss) gs))) (string (sites_of fs ss) xs t s)) (sym (sorted_is ss gs hs (good_positive ss gs good) o))
 
 -- ---- what a stable sort by the site says

@@ -93,7 +93,7 @@ fn has_bad_head<const K: usize>(group: &Group<K>, name: &Name, charge: &Charge<K
 
 /// Where an operator is at fault: 0 for its name or its charge, and else the number, from 1, of the
 /// first entry that does not carry its charge.
-pub(crate) fn first_fault<const K: usize>(
+pub fn op_fault<const K: usize>(
     group: &Group<K>,
     leg: &Leg<K>,
     name: &Name,

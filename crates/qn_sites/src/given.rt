@@ -9,7 +9,7 @@ ghost use Rattle.qn_sites.specs.Operators.{IsSiteLeg};
 ghost use Rattle.qn_sites.specs.Sites.{AreAscending, IsOn, identity_name, identity_on, names, op_on, set_in, site_with, unit_table};
 ghost use Rattle.qn_sites.specs.Refusals.{IsOwnFault};
 
-use crate::checks::first_fault;
+use crate::checks::op_fault;
 use crate::fault::SiteFault;
 use crate::name::Name;
 use crate::operator::OpTable;
@@ -37,7 +37,7 @@ fn tested<const K: usize>(
     let mut tables = Vec::new(alloc);
     for (name, charge, entries) in ops {
         charge.known();
-        match first_fault(group, leg, &name, &charge, &entries) {
+        match op_fault(group, leg, &name, &charge, &entries) {
             Some(entry) => {
                 let op = tables.as_slice().len();
                 return Err(SiteFault::OpCharge { op, entry });

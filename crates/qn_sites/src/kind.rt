@@ -171,6 +171,7 @@ pub fn builtin<const K: usize>(
     group: &Group<K>,
 ) -> Result<SiteTable<K>, SiteFault>
     ensures ok { IfOk result (λ t. (k : KindRow) × IsKindOf kind.now group.now k × (t ≡ kind_site k)) }
+    ensures group { IfOk result (λ t. t.group ≡ group.now) }
     ensures err { IfErr result (IsBuiltinFault kind.now group.now) }
 {
     match find(kind) {

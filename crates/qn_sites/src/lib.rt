@@ -13,6 +13,7 @@ mod site;
 #[cfg(test)]
 mod tests;
 
+pub use checks::op_fault;
 pub use fault::SiteFault;
 pub use given::own;
 pub use kind::builtin;

@@ -1,6 +1,11 @@
-use crate::{OpTable, SiteFault, SiteTable, builtin};
-use qn_charge::{Factor, Group};
+ghost use Rattle.std.specs.Prelude.{◌≡◌, ◌≤◌, IfOk};
+ghost use Rattle.qn_index.specs.Legs.{total};
+ghost use Rattle.qn_sites.specs.Operators.{IsSiteLeg};
+
+use crate::{Name, OpTable, SiteFault, SiteTable, builtin, own};
+use qn_charge::{Charge, Factor, Group};
 use qn_gauss::Gauss;
+use qn_index::{Dir, Leg, Sector};
 use std::alloc::{AllocError, Global};
 use std::process::Abort;
 use std::test::Fail;
@@ -23,7 +28,7 @@ fn names_of<const K: usize>(alloc: Global, site: &SiteTable<K>) -> Result<String
     let mut text = String::new(alloc);
     for op in site.ops() {
         text.push_str(" ")?;
-        text.push_str(op.name().as_str())?;
+        text.push_str(op.name().copy()?.as_str())?;
     }
     Ok(text)
 }
@@ -97,6 +102,81 @@ fn entries_of_operators(rt: HostRuntime) -> Result<(), Fail> {
         match electron.ops().get(place) {
             Some(op) => assert_eq!(&rt; entry_of(&rt, alloc, op, row, column)?, entry),
             None => panic!(&rt; "{place}"),
+        }
+    }
+    Ok(())
+}
+
+// The leg of a fermion: a value of charge 0 and one of charge 1.
+fn fermion_leg(rt: &impl Abort, alloc: Global, group: &Group<1>) -> Result<Leg<1>, AllocError>
+    ensures { IfOk result (IsSiteLeg group.now) }
+{
+    let mut sectors = Vec::new(alloc);
+    for part in [0i64, 1] {
+        sectors.push(Sector {
+            charge: Charge::new(&[part]),
+            dim: 1,
+        })?;
+    }
+    match Leg::new(group, Dir::Out, sectors) {
+        Ok(leg) => {
+            leg.known();
+            assert!(rt; leg.dim() <= 64);
+            Ok(leg)
+        }
+        Err(fault) => panic!(rt; "{fault:?}"),
+    }
+}
+
+// The site with one operator of this name, this charge and these entries, row after row.
+fn site_of(
+    rt: &impl Abort,
+    alloc: Global,
+    name: &str,
+    charge: i64,
+    table: [i128; 4],
+) -> Result<SiteTable<1>, SiteFault> {
+    let group: Group<1> = group_of(rt, &[FERMION]);
+    let leg = fermion_leg(rt, alloc, &group)?;
+    let mut entries = Vec::new(alloc);
+    for part in table {
+        match Gauss::new(part, 0) {
+            Some(entry) => entries.push(entry)?,
+            None => panic!(rt; "{part}"),
+        }
+    }
+    let dim = leg.dim() as usize;
+    assert!(rt; entries.len() == dim * dim);
+    let mut ops = Vec::new(alloc);
+    let name = Name::new(String::from_str(alloc, name)?);
+    ops.push((name, Charge::new(&[charge]), entries))?;
+    own(alloc, &group, leg, ops)
+}
+
+#[test]
+fn own_operators(rt: HostRuntime) -> Result<(), Fail> {
+    let alloc = rt.alloc();
+    // the operator, and where it is at fault
+    for (name, charge, table, place) in [
+        ("X", 0, [0, 1, 1, 0], Some(2)),
+        ("X", 1, [0, 0, 1, 0], None),
+        ("X", 1, [0, 0, 1, 1], Some(4)),
+        ("X", 0, [2, 0, 0, 3], None),
+        ("X", 10_000_000, [0, 0, 0, 0], None),
+        ("X", 10_000_001, [0, 0, 0, 0], Some(0)),
+        ("I", 0, [1, 0, 0, 1], Some(0)),
+        ("", 0, [1, 0, 0, 1], None),
+    ] {
+        match site_of(&rt, alloc, name, charge, table) {
+            Ok(site) => {
+                assert_eq!(&rt; None, place);
+                assert_eq!(&rt; site.ops().len(), 2);
+            }
+            Err(SiteFault::OpCharge { op, entry }) => {
+                assert_eq!(&rt; op, 0);
+                assert_eq!(&rt; Some(entry), place);
+            }
+            Err(fault) => panic!(&rt; "{fault:?}"),
         }
     }
     Ok(())
