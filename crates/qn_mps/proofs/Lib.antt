@@ -1,0 +1,4 @@
+mod Conjugates
+mod Room
+mod Brakets
+mod SameMembers

@@ -1,0 +1,5 @@
+use Rattle.qn_mps.proofs.Brakets.{overlap_made}
+use Rattle.qn_mps.proofs.network.overlap_members.Goals as goal
+
+pub returns : goal.returns
+returns g c = overlap_made c.args.bra.now.tensors c.args.ket.now.tensors c.new-members.result.items c.add_conjugates.new.members.items c.add_tensors.new.members.items c.new-members.ensures.items c.in_ok-add_conjugates.ensures c.in_ok-add_tensors.ensures

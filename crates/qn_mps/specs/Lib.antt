@@ -1,0 +1,5 @@
+pub mod Chains
+pub mod Labels
+pub mod Networks
+pub mod Refusals
+pub mod SameNetworks

@@ -1,0 +1,15 @@
+//! Chains of tensors on sites in a row: states and operators, and the networks of their overlaps and expectations.
+#![tactic(auto)]
+
+mod chain;
+mod checks;
+mod fault;
+mod labels;
+pub mod laws;
+mod network;
+#[cfg(test)]
+mod tests;
+
+pub use chain::{Chain, ChainKind};
+pub use fault::ChainFault;
+pub use network::{expect_net, overlap_net};
