@@ -1,0 +1,6 @@
+pub mod Automaton
+pub mod Building
+pub mod Flux
+pub mod LinkOrder
+pub mod SumAutomaton
+pub mod Terms
