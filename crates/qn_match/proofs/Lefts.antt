@@ -1,6 +1,7 @@
 -- What is left beside marked elements, and pairs of positions one by one.
-use Rattle.std.proofs.Common.{◌≡◌, ℕ, zero, suc, ◌+◌, ◌<◌, ◌≤◌, Bool, true, false, cond, List, [], ◌∷◌, ◌++◌, length, map, filter, get_or, drop, arith, refl, ap, ap₂, ◌∙◌, sym, subst, add-one, append_assoc}
-use Rattle.std.specs.List.{All, range_with_len, flat_map}
+use Rattle.std.proofs.Common.{◌≡◌, ℕ, zero, suc, ◌+◌, ◌<◌, ◌≤◌, Bool, true, false, cond, List, [], ◌∷◌, ◌++◌, length, map, filter, get_or, drop, arith, refl, ap, ap₂, ◌&&◌, ◌==◌, ◌∙◌, sym, subst, add-one, append_assoc}
+use Rattle.std.specs.List.{All, flat_map}
+use Rattle.std.proofs.lemmas.Bool.{true≢false}
 use Rattle.std.proofs.lemmas.List.{append-nil, drop_all}
 use Rattle.std.proofs.lemmas.List.Elements.{All-nil, All-cons, All-tail, filter-append}
 use Rattle.std.proofs.lemmas.Grind.{flat_map-append}
@@ -9,8 +10,9 @@ use Rattle.qn_sign.specs.Positions.{positions}
 use Rattle.std.specs.Prelude.{Result, Ok, Err, IfOk}
 use Rattle.std.proofs.Common.{Vec, Global}
 use Rattle.std.proofs.lemmas.List.FromFn.{length-map-range_with_len}
-use Rattle.qn_value.specs.Tensors.{BlockValue}
-use Rattle.qn_match.specs.Pairs.{unmarked, marks, all_pairs}
+use Rattle.qn_value.specs.Tensors.{BlockValue, same_values}
+use Rattle.qn_block.specs.Refusals.{block_at}
+use Rattle.qn_match.specs.Pairs.{agree, all_pairs, begins, first_left, give, is_first, marks, second_left, unmarked}
 use Rattle.qn_value.proofs.OpenLegs.{range-last}
 
 -- some elements have been looked at, and those without a mark appended
@@ -90,6 +92,34 @@ row_same p q i (k ∷ ks) e = ap₂ (λ b xs. cond b ((i, k) ∷ xs) xs) (e k) (
 pub row_done : (p q : (ℕ × ℕ) → Bool) (before new : List (ℕ × ℕ)) (i n : ℕ) → ((j : ℕ) → q (i, j) ≡ p (i, j)) → before ≡ filter p (all_pairs i n) → new ≡ before ++ filter q (map (λ j. (i, j)) (positions n)) → new ≡ filter p (all_pairs (i + 1) n)
 row_done p q before new i n e h m =
     m ∙ (ap₂ (λ xs ys. xs ++ ys) h (row_same p q i (positions n) e) ∙ sym (pairs_more p i n))
+
+-- ---- blocks that are passed over
+
+continued : (xs ys zs : List ℕ) → begins xs zs ≡ false → same_values (xs ++ ys) zs ≡ false
+continued [] ys zs e = absurd (true≢false e)
+continued (x ∷ xs) ys [] e = refl
+continued (x ∷ xs) ys (z ∷ zs) e = by (x == z) e (continued xs ys zs)
+  where
+    by : (b : Bool) → (b && begins xs zs) ≡ false → (begins xs zs ≡ false → same_values (xs ++ ys) zs ≡ false) → (b && same_values (xs ++ ys) zs) ≡ false
+    by true h c = c h
+    by false h c = refl
+
+none_given : (shared : List (ℕ × ℕ)) (out t u : List ℕ) → begins (first_left shared t) out ≡ false → give shared out t u ≡ false
+none_given shared out t u e = by (agree shared t u) (continued (first_left shared t) (second_left shared u) out e)
+  where
+    by : (b : Bool) {c : Bool} → c ≡ false → (b && c) ≡ false
+    by true h = h
+    by false h = refl
+
+none_kept : (p : (ℕ × ℕ) → Bool) (i : ℕ) (ks : List ℕ) → ((j : ℕ) → p (i, j) ≡ false) → filter p (map (λ j. (i, j)) ks) ≡ []
+none_kept p i [] e = refl
+none_kept p i (k ∷ ks) e = ap (λ b. cond b ((i, k) ∷ filter p (map (λ j. (i, j)) ks)) (filter p (map (λ j. (i, j)) ks))) (e k) ∙ none_kept p i ks e
+
+-- a first block of which the tuple does not begin with what is left has no pair
+pub passed_over : (shared : List (ℕ × ℕ)) (i : ℕ) (t left out : List ℕ) (bs : List BlockValue) (before : List (ℕ × ℕ)) → left ≡ unmarked (marks (is_first shared) (length t)) t → begins left out ≡ false →
+    before ≡ before ++ filter (λ (p : ℕ × ℕ). give shared out t (block_at bs p.1).tuple) (map (λ j. (i, j)) (positions (length bs)))
+passed_over shared i t left out bs before e n =
+    sym (ap (λ xs. before ++ xs) (none_kept (λ (p : ℕ × ℕ). give shared out t (block_at bs p.1).tuple) i (positions (length bs)) (λ j. none_given shared out t (block_at bs j).tuple (ap (λ l. begins l out) (sym e) ∙ n))) ∙ append-nil before)
 
 pub marks_length : (f : ℕ → Bool) (n : ℕ) → length (marks f n) ≡ n
 marks_length f n = length-map-range_with_len f 0 n

@@ -52,6 +52,12 @@ left_of_first shared b = first_left shared b.tuple
 abbrev pub left_of_second : List (ℕ × ℕ) → BlockValue → List ℕ
 left_of_second shared b = second_left shared b.tuple
 
+-- a list begins with these elements
+abbrev pub begins : List ℕ → List ℕ → Bool
+begins [] ys = true
+begins (x ∷ xs) [] = false
+begins (x ∷ xs) (y ∷ ys) = (x == y) && begins xs ys
+
 -- two tuples have one sector on each shared leg
 abbrev pub agree : List (ℕ × ℕ) → List ℕ → List ℕ → Bool
 agree [] t u = true

@@ -3,7 +3,7 @@ ghost use Rattle.std.specs.Prelude.{◌≡◌, ◌++◌, ◌&&◌, ◌<◌, leng
 ghost use Rattle.qn_sign.specs.Positions.{positions};
 ghost use Rattle.qn_value.specs.Tensors.{same_values};
 ghost use Rattle.qn_block.specs.Refusals.{block_at};
-ghost use Rattle.qn_match.specs.Pairs.{is_first, is_second, marks, unmarked, agree, give, left_of_first, left_of_second, pairs_for};
+ghost use Rattle.qn_match.specs.Pairs.{is_first, is_second, marks, unmarked, agree, begins, give, left_of_first, left_of_second, pairs_for};
 
 use crate::marks::append_sectors;
 use qn_block::Block;
@@ -44,6 +44,19 @@ fn is_joined(first: &[u32], second: &[u32], out: &[u32]) -> bool
         [x, later @ ..] => match out {
             [] => false,
             [y, rest @ ..] => *x == *y && is_joined(later, second, rest),
+        },
+    }
+}
+
+/// Whether a list begins with these sectors.
+fn begins(front: &[u32], list: &[u32]) -> bool
+    ensures { result ≡ begins front.now list.now }
+{
+    match front {
+        [] => true,
+        [x, later @ ..] => match list {
+            [] => false,
+            [y, rest @ ..] => *x == *y && begins(later, rest),
         },
     }
 }
@@ -111,6 +124,30 @@ fn append_row(
     Ok(())
 }
 
+/// The same. A first block gives only tuples that begin with what is left of its own: the others are passed over at once.
+fn append_fitting_row(
+    shared: &[(usize, usize)],
+    i: usize,
+    first: &[u32],
+    first_left: &[u32],
+    seconds: &[Block],
+    lefts: &[Tuple],
+    out: &[u32],
+    pairs: &mut Vec<(usize, usize)>,
+) -> Result<(), AllocError>
+    requires first { All (λ p. p.0 < length first.now) shared.now }
+    requires seconds { All (λ b. All (λ p. p.1 < length b.tuple) shared.now) seconds.now }
+    requires first_left { first_left.now ≡ unmarked (marks (is_first shared.now) (length first.now)) first.now }
+    requires lefts { lefts.now ≡ map (left_of_second shared.now) seconds.now }
+    ensures { OnOk result (pairs.new.items ≡ pairs.old.items ++ filter (λ p. give shared.now out.now first.now (block_at seconds.now p.1).tuple) (map (λ j. (i, j)) (positions (length seconds.now)))) }
+{
+    if begins(first_left, out) {
+        append_row(shared, i, first, first_left, seconds, lefts, out, pairs)
+    } else {
+        Ok(())
+    }
+}
+
 /// The pairs of blocks that agree on the shared legs and give this tuple, ascending.
 pub fn pairs_for(
     alloc: Global,
@@ -130,7 +167,7 @@ pub fn pairs_for(
     let mut pairs = Vec::new(alloc);
     for i in 0..firsts.len() {
         let block = &firsts[i];
-        append_row(
+        append_fitting_row(
             shared,
             i,
             block.tuple.as_slice(),

@@ -9,3 +9,4 @@ pub mod Tasks
 pub mod Terms
 pub mod Weighed
 pub mod Words
+mod Zeros

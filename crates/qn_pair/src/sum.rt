@@ -98,7 +98,9 @@ impl<'a> Source<'a> {
     }
 }
 
-/// A sum and its sum of magnitudes with one product more, where this is in range.
+/// A sum and its sum of magnitudes with one product more, where this is in range. A factor 0 adds nothing, and is not
+/// multiplied.
+#[tactic(auto, using(crate::proofs::Zeros::first_adds_nothing, crate::proofs::Zeros::second_adds_nothing, crate::proofs::Zeros::first_has_no_size, crate::proofs::Zeros::second_has_no_size, crate::proofs::Zeros::first_is_in_range, crate::proofs::Zeros::second_is_in_range))]
 fn add_product<L: Ledger>(
     first: Gauss,
     second: Gauss,
@@ -116,6 +118,12 @@ fn add_product<L: Ledger>(
     ensures none { IsNone result ↔ (limit < size + mag first * mag second) }
     ensures steps { steps.new ≤ steps.old + 1 }
 {
+    if first.is_zero() {
+        return Some((sum, size));
+    }
+    if second.is_zero() {
+        return Some((sum, size));
+    }
     match mag_mul(first.mag(), second.mag()) {
         None => None,
         Some(product) => match mag_add(size, product) {
