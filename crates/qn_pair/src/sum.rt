@@ -100,7 +100,7 @@ impl<'a> Source<'a> {
 
 /// A sum and its sum of magnitudes with one product more, where this is in range. A factor 0 adds nothing, and is not
 /// multiplied.
-#[tactic(auto, using(crate::proofs::Zeros::first_adds_nothing, crate::proofs::Zeros::second_adds_nothing, crate::proofs::Zeros::first_has_no_size, crate::proofs::Zeros::second_has_no_size, crate::proofs::Zeros::first_is_in_range, crate::proofs::Zeros::second_is_in_range))]
+#[tactic(auto, using(crate::proofs::Zeros::first_adds_nothing, crate::proofs::Zeros::second_adds_nothing))]
 fn add_product<L: Ledger>(
     first: Gauss,
     second: Gauss,
