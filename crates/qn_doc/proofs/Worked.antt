@@ -9,6 +9,7 @@ use Rattle.qn_gauss.specs.Gaussian.{Gaussian, mag, limit}
 use Rattle.qn_value.specs.Examples.{fermions, single, whole}
 use Rattle.qn_value.proofs.ExampleLemmas.{is_tensor, has_blocks}
 use Rattle.qn_block.specs.Blocked.{IsBlocked}
+use Rattle.qn_net.specs.Members.{LabelledMember, IsHeld}
 use Rattle.qn_net.specs.Refusals.{IsLabel}
 use Rattle.qn_net.specs.Examples.{trace_alone}
 use Rattle.qn_net.proofs.WorkedPremises.{well_formed}
@@ -76,7 +77,7 @@ pub worked : IsDocumentOf trace_alone worked_text
 worked = record {
   network = well_formed;
   untwisted = refl;
-  written = record { members = worked_member ∷ []; are = refl; is = refl; tree = tree };
+  written = record { members = worked_member ∷ []; held = one (λ (m : LabelledMember). IsHeld m.member) worked_member printable.blocked; are = refl; is = refl; tree = tree };
   printable = document;
   labels = labels;
   short = omega (arith, long);

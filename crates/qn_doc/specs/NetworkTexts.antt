@@ -1,10 +1,11 @@
 -- The text of a network: compact JSON, the keys of each object ascending. Blocks that are all zeros are left out.
 use Rattle.std.specs.Prelude.{◌≡◌, ℕ, ℤ, List, map, filter, codes, Some}
+use Rattle.std.specs.List.{All}
 use Rattle.serde_json.specs.Data.{Data, string, object, member, no_members}
 use Rattle.qn_charge.specs.declared.factor.Factor.{Factor}
 use Rattle.qn_block.specs.Blocked.{BlockedValue, is_filled}
 use Rattle.qn_block.specs.Combiners.{CombinerValue}
-use Rattle.qn_net.specs.Members.{MemberValue, LabelledMember, placed_member}
+use Rattle.qn_net.specs.Members.{MemberValue, LabelledMember, placed_member, IsHeld}
 use Rattle.qn_net.specs.Members.MemberValue.{own, fuse, split}
 use Rattle.qn_net.specs.NetworkValues.{NetworkValue}
 use Rattle.qn_parts.specs.Texts.{line_of}
@@ -51,9 +52,10 @@ network_data fs order ms =
     (member (codes "order") (labels_data order)
     (member (codes "tensors") (list_data (map member_data ms)) no_members)))
 
--- the text of the network whose members these are, which is read as the tree that it was written from
+-- the text of the network whose members these are, as they are held, which is read as the tree that it was written from
 pub record IsTextOf (net : NetworkValue) (text : List ℕ) : Type 0 where
   pub members : List LabelledMember
+  pub held : All (λ (m : LabelledMember). IsHeld m.member) members
   pub are : map placed_member members ≡ net.members
   pub is : text ≡ line_of (network_data net.group net.order members)
   pub tree : tree_of text ≡ Some (network_data net.group net.order members)

@@ -1,5 +1,7 @@
 ghost use Rattle.std.specs.Prelude.{◌≡◌, IfOk, List, ℕ, ℤ, map, codes};
+ghost use Rattle.std.specs.List.{All};
 ghost use Rattle.serde_json.specs.View.{view};
+ghost use Rattle.qn_net.specs.Members.{IsHeld};
 ghost use Rattle.qn_parts.specs.TensorTexts.{list_data};
 ghost use Rattle.qn_doc.specs.NetworkTexts.{labels_data, own_data, combine_data, table_data, labelled_data, member_data, network_data, IsTextOf};
 
@@ -92,13 +94,24 @@ fn network_value<const K: usize>(
     json!(in alloc; {"group": group, "order": order, "tensors": tensors})
 }
 
+/// What holds of each member. Nothing is done.
+fn known_members<const K: usize>(members: &[NetTensor<K>])
+    ensures { All (λ m. IsHeld m.member) members.now }
+{
+    for m in members {
+        m.known();
+    }
+}
+
 /// The text of a network: one line of compact JSON with its newline. Blocks that are all zeros are
 /// left out. A combiner is written as it was given, never as its table.
 #[tactic(auto, using(crate::proofs::TextForms::no_float))]
 pub fn write_network<const K: usize>(alloc: Global, net: &Network<K>) -> Result<Vec<u8>, AllocError>
     ensures { IfOk result (λ bytes. IsTextOf net.now bytes.items) }
 {
-    let value = network_value(alloc, net.group(), net.order(), net.tensors())?;
+    let members = net.tensors();
+    known_members(members);
+    let value = network_value(alloc, net.group(), net.order(), members)?;
     let text = line(alloc, &value)?;
     Ok(text)
 }

@@ -11,13 +11,14 @@ use Rattle.qn_doc.proofs.writing.write_network.Goals as goal
 pub returns : goal.returns
 returns g c =
     let net = c.args.net.now in
-    let ms = c.tensors.result.now in
+    let ms = c.tensors-members.result.now in
     let is : view c.in_ok-value.value ≡ network_data net.group net.order ms =
     c.in_ok-value.ensures ∙ (ap (λ fs. network_data fs c.order.result.now ms) c.group.ensures ∙ ap (λ o. network_data net.group o ms) c.order.ensures) in
     let again = c.in_ok-text.ensures.again (subst (λ d. depth d ≤ max_depth) (sym is) (shallow net.group net.order ms)) in
     record {
       members = ms;
-      are = c.tensors.ensures.members;
+      held = c.known_members.ensures;
+      are = c.tensors-members.ensures.members;
       is = c.in_ok-text.ensures.text ∙ ap line_of is;
       tree = tree_found c.in_ok-text.text.items (view c.in_ok-value.value) again.0 again.1 ∙ ap Some is;
     }
