@@ -1,0 +1,17 @@
+mod Asked
+mod Chained
+mod Charges
+mod Costs
+mod Fluxes
+mod Frames
+mod LeftStates
+mod Links
+mod Lists
+mod Numbers
+mod OperatorRules
+mod Products
+mod Rows
+mod Sites
+mod Sums
+mod Tables
+mod Terms

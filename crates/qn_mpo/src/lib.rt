@@ -1,0 +1,25 @@
+//! The automaton of an operator sum as a chain of tensors.
+#![tactic(auto)]
+
+mod chain;
+mod factor;
+mod fault;
+mod frame;
+mod link;
+mod product;
+mod row;
+mod rules;
+mod scene;
+mod site;
+mod stage;
+mod state;
+mod sum;
+mod table;
+mod tensor;
+mod term;
+#[cfg(test)]
+mod tests;
+
+pub use chain::{build, skeleton};
+pub use fault::BuildFault;
+pub use rules::operator_rules;
