@@ -1,10 +1,9 @@
 -- The kind that a name and a group tell, by a search and by what holds of it.
-use Rattle.std.proofs.Common.{◌≡◌, ℕ, zero, suc, ◌<◌, List, [], ◌∷◌, length, get_or, map, Bool, true, false, ◌&&◌, ◌==◌, cond, Some, None, refl, sym, ap, ap₂, ◌∙◌, subst, arith, true≢false, Contains}
+use Rattle.std.proofs.Common.{◌≡◌, ℕ, zero, suc, ◌<◌, List, [], ◌∷◌, length, get_or, Bool, true, false, ◌&&◌, ◌==◌, cond, Some, None, refl, sym, ap, ap₂, ◌∙◌, arith, true≢false, Contains}
 use Rattle.std.specs.Prelude.{Option, bytes_eq}
 use Rattle.std.specs.Bool.{Decides, beq}
 use Rattle.std.specs.Option.{option_map_or}
 use Rattle.std.specs.Cmp.{booleans_Decides, unsigned_Decides}
-use Rattle.std.specs.Cmp.Lexicographic.{pointwise}
 use Rattle.std.proofs.lemmas.Slice.Eq.{slice_eq-Decides, bytes_eq-Decides}
 use Rattle.qn_charge.specs.declared.factor.Factor.{Factor}
 use Rattle.qn_charge.specs.declared.factor.Factor.TheVariants.{U1, Zn}

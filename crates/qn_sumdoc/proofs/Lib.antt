@@ -4,3 +4,4 @@ pub mod OffCharge
 pub mod KindNames
 pub mod OwnSites
 pub mod Rows
+pub mod StateChains

@@ -1,5 +1,5 @@
 -- Operators with nothing at fault are those of a site.
-use Rattle.std.proofs.Common.{◌≡◌, ℕ, ◌+◌, ◌<◌, ◌*◌, List, [], ◌∷◌, ◌++◌, length, get_or, map, refl, sym, ap, ap₂, ◌∙◌, subst, arith, String, Global, None, append_assoc}
+use Rattle.std.proofs.Common.{◌≡◌, ℕ, ◌+◌, ◌<◌, ◌*◌, List, [], ◌∷◌, ◌++◌, length, map, refl, sym, ap, ap₂, ◌∙◌, subst, arith, String, Global, None, append_assoc}
 use Rattle.std.specs.List.{All}
 use Rattle.std.specs.List.Sorted.{IsStrictlySortedBy}
 use Rattle.std.specs.String.{string_cmp}
@@ -15,8 +15,7 @@ use Rattle.qn_charge.specs.declared.factor.Factor.{Factor}
 use Rattle.qn_index.specs.Legs.{LegValue, total}
 use Rattle.qn_sites.specs.Refusals.{IsClean, IsOwnFault, no_op}
 use Rattle.qn_sites.specs.Sites.{AreAscending, GivenOp}
-use Rattle.qn_sites.specs.declared.fault.SiteFault.{SiteFault}
-use Rattle.qn_sites.specs.declared.fault.SiteFault.TheVariants.{SiteKind, OpCharge, Memory}
+use Rattle.qn_sites.specs.declared.fault.SiteFault.TheVariants.{OpCharge}
 use Rattle.qn_parts.specs.declared.fault.Fault.{Fault}
 use Rattle.qn_parts.specs.Faults.{first_from}
 use Rattle.qn_sumdoc.specs.Objects.{Named, named}

@@ -1,14 +1,19 @@
-//! Operator sums as documents: their form, their first fault, and what they stand for.
+//! Operator sums and states as documents: their form, their first fault, and what they stand for.
 #![tactic(auto)]
 
+mod chains;
 mod objects;
 mod operators;
 mod owned;
 mod sites;
+mod states;
 mod sums;
 mod terms;
 
+pub use states::{AnyStates, States, read_states};
 pub use sums::{AnySum, read_sum};
 
+#[cfg(test)]
+mod state_tests;
 #[cfg(test)]
 mod tests;

@@ -46,8 +46,8 @@ fn head(alloc: Global, v: &Value) -> Result<Vec<Factor>, DocFault>
     factors_of(alloc, items_at(v, "group"))
 }
 
-// The sum of the terms on these sites, or the first of F30, F31 and F33.
-fn joined<const K: usize>(
+/// The sum of the terms on these sites, or the first of F30, F31 and F33.
+pub(crate) fn joined<const K: usize>(
     alloc: Global,
     v: &Value,
     group: &Group<K>,

@@ -1,7 +1,6 @@
-use Rattle.std.proofs.Common.{sym, subst, ◌∙◌, arith}
-use Rattle.std.specs.Prelude.{Some}
+use Rattle.std.proofs.Common.{sym, subst, arith}
 use Rattle.qn_sites.specs.Sites.{GivenOp}
-use Rattle.qn_parts.specs.Faults.{Fails, fault}
+use Rattle.qn_parts.specs.Faults.{Fails}
 use Rattle.qn_sumdoc.proofs.OffCharge.{charge_right, charge_wrong, head_test}
 use Rattle.qn_sumdoc.proofs.operators.check_charge.Goals as goal
 

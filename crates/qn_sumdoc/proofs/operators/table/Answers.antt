@@ -1,4 +1,4 @@
-use Rattle.std.proofs.Common.{rules, ◌≡◌, ◌*◌, length, map, ap, ap₂, ◌∙◌, None}
+use Rattle.std.proofs.Common.{◌≡◌, ◌*◌, length, map, ap, ap₂, ◌∙◌, None}
 use Rattle.std.specs.Option.{option_or}
 use Rattle.std.proofs.lemmas.List.{length-map}
 use Rattle.serde_json.specs.View.{view}

@@ -1,10 +1,8 @@
-use Rattle.std.proofs.Common.{rules, ◌≡◌, ◌≤◌, length, map, ap, ap₂, ◌∙◌, arith, false}
-use Rattle.std.specs.Prelude.{nat_lt}
+use Rattle.std.proofs.Common.{◌≤◌, length, map, ap, ap₂, arith}
 use Rattle.std.specs.Option.{option_or}
-use Rattle.std.proofs.lemmas.Bool.{ltb-false, le-ltb}
+use Rattle.std.proofs.lemmas.Bool.{le-ltb}
 use Rattle.std.proofs.lemmas.List.{length-map}
 use Rattle.qn_parts.specs.Faults.{fault, fault_if}
-use Rattle.qn_sites.specs.Sites.{GivenOp}
 use Rattle.qn_sumdoc.specs.Objects.{named}
 use Rattle.qn_sumdoc.specs.Operators.{given_of}
 use Rattle.qn_sumdoc.proofs.OwnSites.{ops_ascend}

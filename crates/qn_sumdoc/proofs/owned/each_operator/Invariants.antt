@@ -1,4 +1,4 @@
-use Rattle.std.proofs.Common.{◌≡◌, ◌+◌, ◌++◌, map}
+use Rattle.std.proofs.Common.{◌≡◌, ◌+◌, map}
 use Rattle.qn_parts.specs.Faults.{first_from, first_of}
 use Rattle.qn_sumdoc.specs.Objects.{named}
 use Rattle.qn_sumdoc.specs.Operators.{operator_fault}

@@ -1,4 +1,4 @@
-use Rattle.std.proofs.Common.{List, map, ◌≡◌, ◌≤◌, ap, arith, sym, subst, ◌∙◌}
+use Rattle.std.proofs.Common.{List, map, ◌≡◌, ◌≤◌, ap, arith, subst, ◌∙◌}
 use Rattle.serde_json.specs.View.{view}
 use Rattle.qn_index.specs.declared.leg.Dir.TheVariants.{Out}
 use Rattle.qn_index.specs.Legs.{LegValue, SectorValue, total}

@@ -1,4 +1,4 @@
-use Rattle.std.proofs.Common.{ap, refl, sym, subst, ◌∙◌}
+use Rattle.std.proofs.Common.{ap, refl, subst}
 use Rattle.std.specs.Prelude.{not}
 use Rattle.serde_json.specs.View.{view}
 use Rattle.qn_sites.specs.Refusals.{IsBuiltinFault, IsKindOf}
