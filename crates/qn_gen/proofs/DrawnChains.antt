@@ -1,5 +1,5 @@
 -- The drawn tensors: what is drawn from a state on, and that they are a chain.
-use Rattle.std.proofs.Common.{◌≡◌, ◌≢◌, ◌∙◌, sym, refl, ap, subst, ℕ, ℤ, zero, suc, ◌+◌, ◌-◌, ◌<◌, ◌≤◌, ◌^◌, pos, List, [], ◌∷◌, ◌++◌, map, arith, length, get_or, take, drop, cond, eqb, Bool, true, false, None, rules, tests}
+use Rattle.std.proofs.Common.{◌≡◌, ◌∙◌, sym, refl, ap, subst, ℕ, zero, suc, ◌+◌, ◌-◌, ◌<◌, ◌≤◌, ◌^◌, pos, List, [], ◌∷◌, ◌++◌, arith, length, get_or, take, drop, cond, eqb, Bool, true, false, None, rules, tests}
 use Rattle.std.proofs.lemmas.List.{append_assoc, get_or-map, length-map}
 use Rattle.std.proofs.lemmas.List.Elements.{All-from_get_or}
 use Rattle.std.proofs.lemmas.List.FromFn.{length-range_with_len}
@@ -43,14 +43,6 @@ chain_first x n j js = ap (λ ts. drawn_tensor x n 0 j ∷ ts) (ap (λ m. drawn_
 pub record AreMade (x n k y : ℕ) (ts : List BlockedValue) : Type 0 where
   pub tensors : ts ++ drawn_chain y n 0 (range_with_len (k + 1) (n - k)) ≡ drawn_chain x n 0 (range_with_len 1 n)
   pub state : turned y (sum_by (entries_at n) (range_with_len (k + 1) (n - k))) ≡ turned x (entries_in n)
-
-pub made_none : (x n : ℕ) (ts : List BlockedValue) → ts ≡ [] → AreMade x n 0 x ts
-made_none x n ts p =
-    let all : n - 0 ≡ n = omega arith in
-    record {
-      tensors = ap (λ us. us ++ drawn_chain x n 0 (range_with_len 1 (n - 0))) p ∙ ap (λ k. drawn_chain x n 0 (range_with_len 1 k)) all;
-      state = ap (λ k. turned x (sum_by (entries_at n) (range_with_len 1 k))) all;
-    }
 
 pub made_more : (x n k y z : ℕ) (ts us : List BlockedValue) (t : BlockedValue) → AreMade x n k y ts → k < n → t ≡ drawn_tensor y n 0 (k + 1) → z ≡ turned y (entries_at n (k + 1)) → us ≡ ts ++ t ∷ [] → AreMade x n (k + 1) z us
 made_more x n k y z ts us t are lt made state pushed =
@@ -109,10 +101,6 @@ length_legs n = length-map (sites n) (λ (s : SiteValue). s.leg) ∙ length_site
 
 leg_is : (n m : ℕ) (d : LegValue) → m < n → get_or (leg_list n) m d ≡ site_leg
 leg_is n m d lt = get_or-map (λ (s : SiteValue). s.leg) (sites n) m no_site d (omega (arith, lt, length_sites n)) ∙ ap (λ (s : SiteValue). s.leg) (site_is n m no_site lt)
-
--- the first site's leg, read from legs that are known to be these
-pub first_own : (n : ℕ) (ls : List LegValue) (l : LegValue) → ls ≡ leg_list n → 0 < n → l ≡ get_or ls 0 l → l ≡ site_leg
-first_own n ls l p some is = is ∙ (ap (λ (ks : List LegValue). get_or ks 0 l) p ∙ leg_is n 0 l some)
 
 legs_out : (n : ℕ) → All (λ (l : LegValue). l.arrow ≡ Out) (leg_list n)
 legs_out n = All-from_get_or (λ (l : LegValue). l.arrow ≡ Out) (leg_list n) no_leg (λ m lt. ap (λ (l : LegValue). l.arrow) (leg_is n m no_leg (omega (arith, lt, length_legs n))))
@@ -173,8 +161,7 @@ has_link x n m lt =
 
 faultless : (x n : ℕ) → IsFaultless State (leg_list n) (drawn_chain x n 0 (range_with_len 1 n))
 faultless x n =
-    let ts = drawn_chain x n 0 (range_with_len 1 n) in
-    (
+    let ts = drawn_chain x n 0 (range_with_len 1 n) in (
       (length_all x n ∙ sym (length_legs n), λ m lt. subst (λ k. AreLegsOf (leg_at (leg_list n) m ∷ []) k m (tensor_at ts m).legs) (sym (length_legs n)) (has_legs x n m (omega (arith, lt, length_legs n)))),
       λ m lt. has_link x n m (omega (arith, lt, length_all x n)),
     )

@@ -1,5 +1,5 @@
 -- What is drawn from a state on is what its seed gives from a place on.
-use Rattle.std.proofs.Common.{◌≡◌, ◌∙◌, sym, refl, ap, subst, ℕ, zero, suc, ◌+◌, ◌-◌, ◌<◌, ◌%◌, ◌/◌, ◌^◌, ◌-ℤ◌, pos, List, [], ◌∷◌, ◌++◌, map, arith, drop, length, get_or}
+use Rattle.std.proofs.Common.{◌≡◌, ◌∙◌, sym, refl, ap, subst, ℕ, zero, suc, ◌+◌, ◌<◌, ◌%◌, ◌/◌, ◌-ℤ◌, pos, List, [], ◌∷◌, ◌++◌, map, arith, drop, length, get_or}
 use Rattle.std.proofs.lemmas.List.{append_assoc, drop_more, get_or_read}
 use Rattle.std.proofs.lemmas.List.FromFn.{map-range_with_len_more}
 use Rattle.std.proofs.lemmas.List.Sums.{sum_by-cons}

@@ -1,37 +1,24 @@
 -- The generated sum has no fault.
-use Rattle.std.proofs.Common.{◌≡◌, ◌≢◌, ◌∙◌, sym, refl, ap, subst, ℕ, ℤ, zero, suc, ◌+◌, ◌*◌, ◌-◌, ◌<◌, ◌≤◌, ◌⊎◌, inl, inr, pos, List, [], ◌∷◌, ◌++◌, map, arith, length, get_or, codes, length-append, true}
+use Rattle.std.proofs.Common.{◌≡◌, ◌∙◌, sym, refl, ap, subst, ℕ, zero, suc, ◌+◌, ◌*◌, ◌-◌, ◌<◌, ◌≤◌, ◌⊎◌, inl, inr, pos, List, [], ◌∷◌, map, arith, length, get_or, codes, length-append}
 use Rattle.std.proofs.lemmas.List.FromFn.{get_or-map-range_with_len, length-map-range_with_len}
 use Rattle.std.proofs.lemmas.List.Elements.{All-append, All-from_get_or, All-get_or}
 use Rattle.std.specs.List.{All, flat_map, range_with_len}
-use Rattle.qn_gauss.specs.Gaussian.{Gaussian}
 use Rattle.qn_charge.specs.declared.factor.Factor.{Factor}
 use Rattle.qn_charge.specs.Firsts.{HasNone}
-use Rattle.qn_sites.specs.Kinds.{KindRow, fermion, kind_site, kinds}
+use Rattle.qn_sites.specs.Kinds.{fermion, kind_site}
 use Rattle.qn_sites.specs.Operators.{OpValue}
 use Rattle.qn_sites.specs.Refusals.{IsKindOf}
 use Rattle.qn_sites.specs.Sites.{SiteValue, name_at}
 use Rattle.qn_opsum.specs.declared.fault.SumFault.{SumFault}
 use Rattle.qn_opsum.specs.declared.fault.SumFault.TheVariants.{TermCount, SiteRange, UnknownOp, MixedFlux, Memory}
-use Rattle.qn_opsum.specs.Sums.{TermValue, charge_of, no_site, no_term, op_at, op_for, ops_for, place_of, site_at, term_at}
+use Rattle.qn_opsum.specs.Sums.{TermValue, charge_of, no_site, no_term, op_at, op_for, ops_for, place_of, term_at}
 use Rattle.qn_opsum.specs.Refusals.{BadName, BadSite, IsFirstTermFault, IsGood, IsSumFault, IsTermFault, IsUnknown}
-use Rattle.qn_gen.specs.Workload.{density, drawn, group, hop, hops, sites, terms}
+use Rattle.qn_gen.specs.Workload.{density, group, hop, hops, sites, terms}
 
 -- ---- the kind of the sites
 
 pub fermion_known : (fs : List Factor) → fs ≡ group → IsKindOf (codes "fermion") fs fermion
 fermion_known fs p = record { listed = (1, omega arith, refl); name = refl; group = sym p }
-
-pub kind_is : (fs : List Factor) (k : KindRow) → fs ≡ group → IsKindOf (codes "fermion") fs k → k ≡ fermion
-kind_is fs k p is = by is.listed.0 is.listed.1 is.listed.2
-  where
-    factors : k.factors ≡ group
-    factors = is.group ∙ p
-
-    by : (i : ℕ) → i < 3 → get_or kinds i k ≡ k → k ≡ fermion
-    by zero lt e = let f = ap (λ (r : KindRow). r.factors) e in cc
-    by (suc zero) lt e = sym e
-    by (suc (suc zero)) lt e = let f = ap (λ (r : KindRow). r.factors) e in cc
-    by (suc (suc (suc i))) lt e = absurd (omega (arith, lt))
 
 -- ---- the sites
 

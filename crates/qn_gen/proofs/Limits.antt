@@ -1,9 +1,8 @@
 -- The shapes of the tensors are within the limits, and their charges are of the group.
-use Rattle.std.proofs.Common.{◌≡◌, ◌∙◌, sym, refl, ap, subst, ℕ, ℤ, zero, suc, ◌+◌, ◌*◌, ◌-◌, ◌<◌, ◌≤◌, pos, List, [], ◌∷◌, ◌++◌, arith, length, get_or, cond, eqb, leb, Bool, true, false, ⊎_elim}
+use Rattle.std.proofs.Common.{◌≡◌, sym, refl, ap, subst, ℕ, ℤ, zero, suc, ◌+◌, ◌*◌, ◌-◌, ◌<◌, ◌≤◌, pos, List, [], ◌∷◌, ◌++◌, arith, length, get_or, cond, eqb, Bool, true, false, ⊎_elim}
 use Rattle.std.proofs.Math.ListN.{get_or-eq_default}
 use Rattle.std.proofs.Math.Nat.{mul-le-mul_left, mul-le-mul_right}
 use Rattle.std.proofs.lemmas.Bool.{cases_lt}
-use Rattle.std.proofs.lemmas.Int.{ints}
 use Rattle.std.proofs.lemmas.List.Sums.{count_by-le-length, length-filter}
 use Rattle.std.proofs.lemmas.List.Elements.{All-from_get_or}
 use Rattle.std.specs.List.{All}
@@ -13,9 +12,9 @@ use Rattle.qn_index.specs.declared.leg.Dir.TheVariants.{Out, In}
 use Rattle.qn_index.specs.Legs.{IsLegOf, IsOf, LegValue, SectorValue, no_sector, sector_at}
 use Rattle.qn_index.specs.Tuples.{IsFlux, admits, admitted, count, tuples}
 use Rattle.qn_index.specs.Places.{block_size}
-use Rattle.qn_index.specs.Extents.{IsWithinLimits, entries, size_of}
+use Rattle.qn_index.specs.Extents.{IsWithinLimits, size_of}
 use Rattle.qn_index.proofs.Shapes.{length_tuples}
-use Rattle.qn_gen.specs.Workload.{flux_at, greatest, group, least, legs_at, link_dim, link_sectors, particles, site_leg}
+use Rattle.qn_gen.specs.Workload.{flux_at, group, least, legs_at, link_dim, link_sectors, particles, site_leg}
 use Rattle.qn_gen.proofs.LinkSectors.{count_is, dim_few, sector, sector_is, width}
 
 -- a leg of at most 3 sectors, of at most 8 values each
@@ -74,9 +73,9 @@ link_small : (dir : Dir) (n j : ℕ) → n ≤ 32 → IsSmall (link_leg dir n j)
 link_small dir n j few = record {
   sectors = omega (arith, count_is n j);
   dims = λ i. ⊎_elim
-    (λ lt. let e : (sector_at (link_sectors n j) i).dim ≡ link_dim n = ap (λ (s : SectorValue). s.dim) (sector_is n j i lt) in omega (arith, e, dim_few n))
-    (λ ge. let e : (sector_at (link_sectors n j) i).dim ≡ 0 = ap (λ (s : SectorValue). s.dim) (get_or-eq_default (link_sectors n j) no_sector {n = i} (omega (arith, ge, count_is n j))) in omega (arith, e))
-    (cases_lt i (width n j));
+      (λ lt. let e : (sector_at (link_sectors n j) i).dim ≡ link_dim n = ap (λ (s : SectorValue). s.dim) (sector_is n j i lt) in omega (arith, e, dim_few n))
+      (λ ge. let e : (sector_at (link_sectors n j) i).dim ≡ 0 = ap (λ (s : SectorValue). s.dim) (get_or-eq_default (link_sectors n j) no_sector {n = i} (omega (arith, ge, count_is n j))) in omega (arith, e))
+      (cases_lt i (width n j));
 }
 
 sector_of_group : (d q : ℕ) → q ≤ 33 → IsOf group (sector d q)

@@ -1,10 +1,10 @@
 -- The sum and the states that are drawn one after another are those of the seed.
-use Rattle.std.proofs.Common.{◌≡◌, ◌∙◌, sym, refl, ap, subst, ℕ, zero, suc, ◌+◌, ◌-◌, List, [], ◌∷◌, ◌++◌, map, arith, codes}
+use Rattle.std.proofs.Common.{◌≡◌, ◌∙◌, refl, ap, ℕ, zero, suc, ◌+◌, ◌-◌, List, [], ◌∷◌, ◌++◌, map, arith, codes}
 use Rattle.std.specs.List.{flat_map, range_with_len}
 use Rattle.qn_gauss.specs.Gaussian.{Gaussian}
 use Rattle.qn_opsum.specs.Sums.{SumValue, TermValue}
 use Rattle.qn_mps.specs.Chains.{ChainValue}
-use Rattle.qn_gen.specs.Workload.{density, drawn, drawn_chain, entries_in, generated_bra, generated_ket, generated_sum, hops, site_count, state_on, sum_on, terms, turned}
+use Rattle.qn_gen.specs.Workload.{density, drawn, drawn_chain, entries_in, generated_bra, generated_ket, generated_sum, hops, site_count, state_on, sum_on, turned}
 use Rattle.qn_gen.proofs.Draws.{drawn_later, later}
 use Rattle.qn_gen.proofs.DrawnChains.{chain_later}
 

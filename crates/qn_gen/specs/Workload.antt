@@ -1,5 +1,5 @@
 -- The generated workload: two states and an operator sum on a row of fermion sites, from a seed. It is this project's own.
-use Rattle.std.specs.Prelude.{◌≡◌, ◌==◌, ◌+◌, ◌-◌, ◌*◌, ◌/◌, ◌%◌, ◌^◌, ◌-ℤ◌, ℕ, zero, suc, ℤ, pos, nat_le, max, min, List, [], ◌∷◌, ◌++◌, map, flat_map, length, codes, true, if◌then◌else◌, cond}
+use Rattle.std.specs.Prelude.{◌==◌, ◌+◌, ◌-◌, ◌*◌, ◌/◌, ◌%◌, ◌^◌, ◌-ℤ◌, ℕ, zero, suc, ℤ, pos, nat_le, max, min, List, [], ◌∷◌, ◌++◌, map, flat_map, codes, true, if◌then◌else◌}
 use Rattle.std.specs.List.{range_with_len, sum_by}
 use Rattle.qn_gauss.specs.Gaussian.{Gaussian, one_g}
 use Rattle.qn_charge.specs.declared.factor.Factor.{Factor}

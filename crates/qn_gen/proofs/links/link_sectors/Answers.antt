@@ -1,5 +1,5 @@
-use Rattle.std.proofs.Common.{arith, rules, ◌≡◌, ◌∷◌, [], pos}
-use Rattle.qn_gen.proofs.LinkSectors.{sector, sectors_more}
+use Rattle.std.proofs.Common.{arith, rules}
+use Rattle.qn_gen.proofs.LinkSectors.{sectors_more}
 use Rattle.qn_gen.proofs.links.link_sectors.Goals as goal
 
 pub loop-charge-preserved : goal.loop-charge-preserved

@@ -1,4 +1,4 @@
-use Rattle.std.proofs.Common.{◌≡◌, ◌∙◌, ◌<◌, arith, ap, length, List, get_or, subst, ℕ}
+use Rattle.std.proofs.Common.{◌≡◌, ◌∙◌, ◌<◌, length, List, get_or, subst, ℕ}
 use Rattle.qn_index.specs.Tuples.{admitted}
 use Rattle.qn_block.proofs.Written.{listed_at}
 use Rattle.qn_gen.proofs.Draws.{drawn_more}

@@ -1,4 +1,4 @@
-use Rattle.qn_gen.proofs.Draws.{draws_more, own_state, turned_more}
+use Rattle.qn_gen.proofs.Draws.{draws_more, turned_more}
 use Rattle.qn_gen.proofs.draw.Draws.take.Goals as goal
 
 pub loop-preserved : goal.loop-preserved
