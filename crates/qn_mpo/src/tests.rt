@@ -1,7 +1,6 @@
 ghost use Rattle.std.specs.Prelude.{◌≡◌, ◌<◌, ◌≤◌, length, IfOk};
 ghost use Rattle.std.specs.List.{All};
 ghost use Rattle.qn_sites.specs.Sites.{SiteValue};
-ghost use Rattle.qn_mpo.specs.Builds.{IsBuilt};
 
 use crate::{BuildFault, build, operator_rules, skeleton};
 use qn_block::Block;
@@ -61,10 +60,9 @@ fn sum_of<const K: usize>(
     kind: &str,
     count: usize,
     rows: &[Row],
-) -> Result<OpSum<K>, SiteFault>
-    requires some { 0 < count }
-    requires few { count ≤ 64 }
-{
+) -> Result<OpSum<K>, SiteFault> {
+    assert!(rt; count > 0);
+    assert!(rt; count <= 64);
     let sites = sites_of(alloc, &group, kind, count)?;
     let mut terms = Vec::new(alloc);
     for row in rows {
@@ -91,9 +89,7 @@ fn chain_of<const K: usize, L: Ledger>(
     alloc: Global,
     sum: &OpSum<K>,
     steps: &mut Steps<L>,
-) -> Result<Chain<K>, BuildFault>
-    ensures { IfOk result (IsBuilt sum.now) }
-{
+) -> Result<Chain<K>, BuildFault> {
     let rules = operator_rules(alloc, sum)?;
     build(alloc, sum, &rules, steps)
 }
@@ -117,7 +113,6 @@ fn built_on_electrons<L: Ledger>(
     requires name { blank.name ≡ L.name }
     requires parts { blank.parts ≡ L.parts }
     requires some { 0 < L.parts }
-    ensures { IfOk result (IsBuilt sum.now) }
 {
     let mut steps = Steps::<L>::new(blank);
     chain_of(alloc, sum, &mut steps)
@@ -125,6 +120,12 @@ fn built_on_electrons<L: Ledger>(
 
 // A block: its tuple, and the real parts of its entries.
 type BlockRow<'a> = (&'a [u32], &'a [i128]);
+
+// A tensor: the number of its legs, and its blocks.
+type TensorRow<'a> = (usize, &'a [BlockRow<'a>]);
+
+// So many sites, the terms, and the tensors.
+type Case<'a> = (usize, &'a [Row<'a>], &'a [TensorRow<'a>]);
 
 fn same_blocks(tensor: &[Block], rows: &[BlockRow]) -> bool {
     if tensor.len() != rows.len() {
@@ -144,24 +145,18 @@ fn same_blocks(tensor: &[Block], rows: &[BlockRow]) -> bool {
     true
 }
 
-// The chain of these terms on fermion sites has tensors of these blocks.
-fn expect_chain(
-    rt: &impl Abort,
-    alloc: Global,
-    count: usize,
-    rows: &[Row],
-    tensors: &[&[BlockRow]],
-) -> Result<(), Fail>
-    requires some { 0 < count }
-    requires few { count ≤ 64 }
-{
+// The chain of these terms on so many fermion sites has these tensors.
+fn expect_chain(rt: &impl Abort, alloc: Global, case: Case) -> Result<(), Fail> {
+    let (count, rows, tensors) = case;
     let group = group_of::<1>(rt, &[Factor::U1 { fermion: true }]);
     let sum = sum_of(rt, alloc, group, "fermion", count, rows)?;
     let chain = built::<Brand>(Blank::new(1), alloc, &sum)?;
     assert_eq!(rt; chain.tensors().len(), tensors.len());
     for (tensor, wanted) in chain.tensors().iter().zip(tensors.iter()) {
+        let (legs, blocks) = wanted;
+        assert_eq!(rt; tensor.legs().len(), *legs);
         assert!(rt;
-            same_blocks(tensor.blocks(), wanted),
+            same_blocks(tensor.blocks(), blocks),
             "{:?}",
             tensor.blocks()
         );
@@ -174,48 +169,57 @@ fn expect_chain(
     Ok(())
 }
 
+const CASES: &[Case<'static>] = &[
+    // hopping, and its exchanged form
+    (
+        2,
+        &[(1, &[(1, "Cdag"), (2, "C")])],
+        &[(3, &[(&[1, 0, 0], &[1])]), (3, &[(&[0, 0, 1], &[1])])],
+    ),
+    (
+        2,
+        &[(1, &[(2, "C"), (1, "Cdag")])],
+        &[(3, &[(&[1, 0, 0], &[-1])]), (3, &[(&[0, 0, 1], &[1])])],
+    ),
+    // over a site between
+    (
+        3,
+        &[(1, &[(1, "Cdag"), (3, "C")])],
+        &[
+            (3, &[(&[1, 0, 0], &[1])]),
+            (4, &[(&[0, 0, 0, 0], &[1]), (&[0, 1, 1, 0], &[1])]),
+            (3, &[(&[0, 0, 1], &[1])]),
+        ],
+    ),
+    // without operators, and two operators on one site from left to right
+    (1, &[(5, &[])], &[(2, &[(&[0, 0], &[5]), (&[1, 1], &[5])])]),
+    (
+        1,
+        &[(2, &[(1, "Cdag"), (1, "C")])],
+        &[(2, &[(&[1, 1], &[2])])],
+    ),
+    // not begun, two lists of one charge, done: one state for two equal lists
+    (
+        2,
+        &[
+            (2, &[(1, "I"), (2, "N")]),
+            (3, &[(1, "N")]),
+            (3, &[(2, "N"), (1, "I")]),
+            (7, &[(2, "N")]),
+        ],
+        &[
+            (3, &[(&[0, 0, 0], &[1, 5, 0]), (&[1, 1, 0], &[1, 5, 3])]),
+            (3, &[(&[0, 0, 0], &[0, 0, 1]), (&[0, 1, 1], &[7, 1, 1])]),
+        ],
+    ),
+];
+
 #[test]
 fn worked_sums(rt: HostRuntime) -> Result<(), Fail> {
     let alloc = rt.alloc();
-    // hopping, and its exchanged form
-    let hop: &[&[BlockRow]] = &[&[(&[1, 0, 0], &[1])], &[(&[0, 0, 1], &[1])]];
-    expect_chain(&rt, alloc, 2, &[(1, &[(1, "Cdag"), (2, "C")])], hop)?;
-    let turned: &[&[BlockRow]] = &[&[(&[1, 0, 0], &[-1])], &[(&[0, 0, 1], &[1])]];
-    expect_chain(&rt, alloc, 2, &[(1, &[(2, "C"), (1, "Cdag")])], turned)?;
-    // over a site between
-    let over: &[&[BlockRow]] = &[
-        &[(&[1, 0, 0], &[1])],
-        &[(&[0, 0, 0, 0], &[1]), (&[0, 1, 1, 0], &[1])],
-        &[(&[0, 0, 1], &[1])],
-    ];
-    expect_chain(&rt, alloc, 3, &[(1, &[(1, "Cdag"), (3, "C")])], over)?;
-    // without operators, and two operators on one site from left to right
-    expect_chain(
-        &rt,
-        alloc,
-        1,
-        &[(5, &[])],
-        &[&[(&[0, 0], &[5]), (&[1, 1], &[5])]],
-    )?;
-    expect_chain(
-        &rt,
-        alloc,
-        1,
-        &[(2, &[(1, "Cdag"), (1, "C")])],
-        &[&[(&[1, 1], &[2])]],
-    )?;
-    // not begun, two lists of one charge, done: one state for two equal lists
-    let shared: &[&[BlockRow]] = &[
-        &[(&[0, 0, 0], &[1, 5, 0]), (&[1, 1, 0], &[1, 5, 3])],
-        &[(&[0, 0, 0], &[0, 0, 1]), (&[0, 1, 1], &[7, 1, 1])],
-    ];
-    let rows: &[Row] = &[
-        (2, &[(1, "I"), (2, "N")]),
-        (3, &[(1, "N")]),
-        (3, &[(2, "N"), (1, "I")]),
-        (7, &[(2, "N")]),
-    ];
-    expect_chain(&rt, alloc, 2, rows, shared)?;
+    for case in CASES {
+        expect_chain(&rt, alloc, *case)?;
+    }
     Ok(())
 }
 
@@ -287,7 +291,10 @@ fn hubbard_chain(rt: HostRuntime) -> Result<(), Fail> {
         ([1, 1], 1),
     ];
     for tensor in &chain.tensors()[1..] {
-        let sectors = tensor.legs()[0].sectors();
+        let Some(left) = tensor.legs().first() else {
+            panic!(&rt; "no leg left");
+        };
+        let sectors = left.sectors();
         assert_eq!(&rt; sectors.len(), wanted.len());
         for (sector, (parts, dim)) in sectors.iter().zip(wanted.iter()) {
             assert_eq!(&rt; sector.charge.part(0), parts[0]);
