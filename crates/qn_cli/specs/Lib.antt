@@ -1,4 +1,10 @@
 pub mod Answers
+pub mod Brakets
+pub mod Generated
+pub mod Jobs
 pub mod Lines
+pub mod Networks
+pub mod Operators
 pub mod Outcomes
+pub mod States
 pub mod Statuses

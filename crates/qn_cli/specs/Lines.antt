@@ -7,7 +7,7 @@ use Rattle.std.specs.Io.KnownBytes.{Appends}
 use Rattle.qn_outside.specs.Faults.{Rose}
 use Rattle.qn_parts.specs.declared.fault.Fault.{Fault}
 use Rattle.qn_cli.specs.declared.status.Status.{Status}
-use Rattle.qn_cli.specs.declared.status.Status.TheVariants.{Done, NotBuilt, Usage, Malformed, Passed, ReadFault, WriteFault, Memory}
+use Rattle.qn_cli.specs.declared.status.Status.TheVariants.{Done, Usage, Malformed, Passed, ReadFault, WriteFault, Memory}
 
 -- pieces, one after another
 abbrev pub joined : List (Bor (List ℕ)) → List ℕ
@@ -37,7 +37,6 @@ usage_line word = codes "qntn: usage word " ++ (decimal word ++ codes "\n")
 -- the line of a status
 abbrev pub line_of : Status → List ℕ
 line_of Done = []
-line_of NotBuilt = codes "qntn: not built\n"
 line_of (Usage word) = usage_line word
 line_of (Malformed f) = fault_line f
 line_of (Passed step at offset) = passed_line step at offset

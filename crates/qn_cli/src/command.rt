@@ -1,18 +1,24 @@
 //! One command, from words and bytes to a text and a status.
-ghost use Rattle.std.specs.Prelude.{◌≡◌, ℕ, ◌+◌, ◌<◌, ◌≤◌, ◌⊎◌, List, Option, Some, None, Ok, Err, true, false, IfOk, IfErr, IfSome, map, string_bytes, length};
+ghost use Rattle.std.specs.Prelude.{◌≡◌, ◌≢◌, ℕ, ◌+◌, ◌<◌, ◌≤◌, ◌⊎◌, List, Option, Some, None, Ok, Err, true, false, IfOk, IfErr, IfSome, map, string_bytes, length};
 ghost use Rattle.std.specs.Io.KnownBytes.{Keeps, Consumes, Appends, IsAtEnd};
 ghost use Rattle.qn_outside.specs.Faults.{Rose};
 ghost use Rattle.qn_parts.specs.Faults.{fault};
 ghost use Rattle.qn_words.specs.declared.words.Job.{Job};
 ghost use Rattle.qn_words.specs.Words.{HasWorkers, job_of};
-ghost use Rattle.qn_cli.specs.Outcomes.{ComesTo, Multiplies, Outcome, answered, is_built, built_job};
-ghost use Rattle.qn_cli.specs.Answers.{Refuses, IsStatusOf, EndsOn};
+ghost use Rattle.qn_cli.specs.Outcomes.{Outcome, answered};
+ghost use Rattle.qn_cli.specs.Jobs.{ComesTo, Multiplies, document, is_read};
+ghost use Rattle.qn_cli.specs.Answers.{Refuses, IsStatusOf, EndsOn, Tells};
 ghost use Rattle.qn_cli.specs.Lines.{line_of, TellsLine};
 
+use crate::brakets::overlap;
+use crate::expectations::expect;
+use crate::generated::summary_of;
 use crate::networks::{contract, plan_of};
+use crate::operators::mpo;
 use crate::status::Status;
 use crate::tell::tell;
 use qn_gauss::Steps;
+use qn_mps::laws::{same_expect_law, same_overlap_law};
 use qn_outside::{ReadAllFault, Sink, Source, read_all, write_all};
 use qn_pair::Gate;
 use qn_parts::Fault;
@@ -31,7 +37,6 @@ fn text_for<G: Gate, L: Ledger, R: Threads + Sync>(
     bytes: &[u8],
     steps: &mut Steps<L>,
 ) -> Result<Vec<u8>, Status>
-    requires built { is_built job ≡ true }
     requires workers { HasWorkers job }
     ensures text { IfOk result (λ text. ComesTo job bytes.now (answered text.items)) }
     ensures status { IfErr result (Refuses job bytes.now) }
@@ -40,7 +45,10 @@ fn text_for<G: Gate, L: Ledger, R: Threads + Sync>(
     match job {
         Job::Contract { workers } => contract(rt, alloc, workers, gate, bytes, steps),
         Job::Plan => plan_of(alloc, bytes),
-        _ => Err(Status::Memory),
+        Job::Mpo => mpo(alloc, bytes, steps),
+        Job::Overlap { workers } => overlap(rt, alloc, workers, gate, bytes, steps),
+        Job::Expect { workers } => expect(rt, alloc, workers, gate, bytes, steps),
+        Job::Gen { seed, workers } => summary_of(rt, alloc, workers, gate, seed, steps),
     }
 }
 
@@ -52,8 +60,35 @@ fn too_long() -> Status
     }
 }
 
-/// Reads, answers and writes.
-#[tactic(auto, using(crate::proofs::Costs::nothing))]
+/// Answers the bytes and writes the text.
+#[tactic(auto, using(crate::proofs::Completeness::refusal_told))]
+fn answer<O: Sink, G: Gate, L: Ledger, R: Threads + Sync>(
+    rt: &R,
+    alloc: Global,
+    job: Job,
+    bytes: &[u8],
+    out: &mut O,
+    gate: &G,
+    steps: &mut Steps<L>,
+) -> Status
+    requires workers { HasWorkers job }
+    ensures tells { Tells job bytes.now (O.held out.old) (O.held out.new) result }
+    ensures cost { Multiplies job bytes.now steps.old steps.new }
+    ensures no_read { result ≢ Status.ReadFault }
+    ensures write_fault { result ≡ Status.WriteFault → Rose (O.faults out.old) (O.faults out.new) }
+{
+    let text = match text_for(rt, alloc, job, gate, bytes, steps) {
+        Ok(text) => text,
+        Err(status) => return status,
+    };
+    match write_all(out, text.as_slice()) {
+        Ok(()) => Status::Done,
+        Err(_) => Status::WriteFault,
+    }
+}
+
+/// Reads the document, answers and writes.
+#[tactic(auto, using(crate::proofs::Costs::nothing, crate::proofs::Completeness::read_whole))]
 fn attempt<S: Source, O: Sink, G: Gate, L: Ledger, R: Threads + Sync>(
     rt: &R,
     alloc: Global,
@@ -63,7 +98,7 @@ fn attempt<S: Source, O: Sink, G: Gate, L: Ledger, R: Threads + Sync>(
     gate: &G,
     steps: &mut Steps<L>,
 ) -> Status
-    requires built { is_built job ≡ true }
+    requires read { is_read job ≡ true }
     requires workers { HasWorkers job }
     ensures bytes { (bytes : List ℕ) × EndsOn job (S.left source.old) (S.left source.new)
         (O.held out.old) (O.held out.new) steps.old steps.new result bytes }
@@ -76,24 +111,18 @@ fn attempt<S: Source, O: Sink, G: Gate, L: Ledger, R: Threads + Sync>(
         Err(ReadAllFault::TooLong) => return too_long(),
         Err(ReadAllFault::Memory) => return Status::Memory,
     };
-    let text = match text_for(rt, alloc, job, gate, bytes.as_slice(), steps) {
-        Ok(text) => text,
-        Err(status) => return status,
-    };
-    match write_all(out, text.as_slice()) {
-        Ok(()) => Status::Done,
-        Err(_) => Status::WriteFault,
-    }
+    answer(rt, alloc, job, bytes.as_slice(), out, gate, steps)
 }
 
-/// Whether the job is built.
-fn is_built(job: Job) -> bool
-    ensures { result ≡ is_built job }
+/// Whether the job reads its document.
+fn is_read(job: Job) -> bool
+    ensures { result ≡ is_read job }
 {
-    matches!(job, Job::Contract { .. } | Job::Plan)
+    !matches!(job, Job::Gen { .. })
 }
 
 /// Does what the words ask for.
+#[tactic(auto, using(crate::proofs::Completeness::unread))]
 fn obey<S: Source, O: Sink, G: Gate, L: Ledger, R: Threads + Sync>(
     rt: &R,
     alloc: Global,
@@ -105,17 +134,16 @@ fn obey<S: Source, O: Sink, G: Gate, L: Ledger, R: Threads + Sync>(
 ) -> Status
     ensures usage { (place : ℕ) → job_of (map string_bytes words.now) ≡ Err place
         → (result ≡ Status.Usage place) × (source.new ≡ source.old) × (out.new ≡ out.old) × (steps.new ≡ steps.old) }
-    ensures not_built { (job : Job) → job_of (map string_bytes words.now) ≡ Ok job → is_built job ≡ false
-        → (result ≡ Status.NotBuilt) × (source.new ≡ source.old) × (out.new ≡ out.old) × (steps.new ≡ steps.old) }
-    ensures bytes { (job : Job) → built_job (job_of (map string_bytes words.now)) ≡ Some job
+    ensures unread { (job : Job) → job_of (map string_bytes words.now) ≡ Ok job → is_read job ≡ false → source.new ≡ source.old }
+    ensures bytes { (job : Job) → job_of (map string_bytes words.now) ≡ Ok job
         → (bytes : List ℕ) × EndsOn job (S.left source.old) (S.left source.new)
         (O.held out.old) (O.held out.new) steps.old steps.new result bytes }
     ensures read_fault { result ≡ Status.ReadFault → Rose (S.faults source.old) (S.faults source.new) }
     ensures write_fault { result ≡ Status.WriteFault → Rose (O.faults out.old) (O.faults out.new) }
 {
     match read_words(words) {
-        Ok(job) if is_built(job) => attempt(rt, alloc, job, source, out, gate, steps),
-        Ok(_) => Status::NotBuilt,
+        Ok(job) if is_read(job) => attempt(rt, alloc, job, source, out, gate, steps),
+        Ok(job) => answer(rt, alloc, job, &[], out, gate, steps),
         Err(word) => Status::Usage { word },
     }
 }
@@ -135,26 +163,27 @@ pub fn run<S: Source, O: Sink, E: Sink, G: Gate, L: Ledger, R: Threads + Sync>(
     gate: &G,
     steps: &mut Steps<L>,
 ) -> Status
-    // Words that don't fit, or that ask for a job that isn't built: nothing is read or written.
+    // Words that don't fit: nothing is read or written.
     ensures usage { (place : ℕ) → job_of (map string_bytes words.now) ≡ Err place
         → (result ≡ Status.Usage place) × (source.new ≡ source.old) × (out.new ≡ out.old) × (steps.new ≡ steps.old) }
-    ensures not_built { (job : Job) → job_of (map string_bytes words.now) ≡ Ok job → is_built job ≡ false
-        → (result ≡ Status.NotBuilt) × (source.new ≡ source.old) × (out.new ≡ out.old) × (steps.new ≡ steps.old) }
+
+    // A job whose document is told by a number reads nothing.
+    ensures unread { (job : Job) → job_of (map string_bytes words.now) ≡ Ok job → is_read job ≡ false → source.new ≡ source.old }
 
     // With a job some bytes came, and the call ends as the job and these bytes ask.
-    ensures bytes { (job : Job) → built_job (job_of (map string_bytes words.now)) ≡ Some job
+    ensures bytes { (job : Job) → job_of (map string_bytes words.now) ≡ Ok job
         → (bytes : List ℕ) × EndsOn job (S.left source.old) (S.left source.new)
         (O.held out.old) (O.held out.new) steps.old steps.new result bytes }
 
-    // Where the source tells its bytes, they have an answer and nothing failed: the whole text, or want of memory.
-    ensures complete { IfSome (S.left source.old) (λ bytes. (job : Job) (text : List ℕ)
-        → built_job (job_of (map string_bytes words.now)) ≡ Some job → ComesTo job bytes (answered text)
+    // Where the job's document is known, it has an answer and nothing failed: the whole text, or want of memory.
+    ensures complete { (job : Job) → job_of (map string_bytes words.now) ≡ Ok job
+        → IfSome (document job (S.left source.old)) (λ bytes. (text : List ℕ) → ComesTo job bytes (answered text)
         → ¬ Rose (S.faults source.old) (S.faults source.new) → ¬ Rose (O.faults out.old) (O.faults out.new)
         → ((result ≡ Status.Done) × Appends (O.held out.old) (O.held out.new) text) ⊎ (result ≡ Status.Memory)) }
 
-    // Where the source tells its bytes and no read failed, the status is the one that they ask for, or want of memory.
-    ensures exact { IfSome (S.left source.old) (λ bytes. (job : Job) (outcome : Outcome)
-        → built_job (job_of (map string_bytes words.now)) ≡ Some job → ComesTo job bytes outcome
+    // Where the job's document is known and no read failed, the status is the one that it asks for, or want of memory.
+    ensures exact { (job : Job) → job_of (map string_bytes words.now) ≡ Ok job
+        → IfSome (document job (S.left source.old)) (λ bytes. (outcome : Outcome) → ComesTo job bytes outcome
         → ¬ Rose (S.faults source.old) (S.faults source.new)
         → IsStatusOf outcome result ⊎ (result ≡ Status.Memory)) }
 
@@ -166,6 +195,8 @@ pub fn run<S: Source, O: Sink, E: Sink, G: Gate, L: Ledger, R: Threads + Sync>(
     ensures line { TellsLine (E.held err.old) (E.held err.new) (E.faults err.old) (E.faults err.new) (line_of result) }
     ensures silent { result ≡ Status.Done → err.new ≡ err.old }
 {
+    same_overlap_law();
+    same_expect_law();
     let status = obey(rt, alloc, words, source, out, gate, steps);
     let _ = tell(err, &status);
     status

@@ -1,8 +1,12 @@
 //! The commands of `qntn`, from words and bytes to a text and a status.
 #![tactic(auto)]
 
+mod brakets;
 mod command;
+mod expectations;
+mod generated;
 mod networks;
+mod operators;
 mod status;
 mod tell;
 #[cfg(test)]

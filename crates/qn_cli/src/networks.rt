@@ -1,13 +1,17 @@
 //! The commands on documents of networks: `contract` and `plan`.
-ghost use Rattle.std.specs.Prelude.{◌≡◌, ◌≤◌, None, IfOk, IfErr};
+ghost use Rattle.std.specs.Prelude.{◌≡◌, ◌≤◌, ◌<◌, ◌^◌, None, length, IfOk, IfErr, OnOk};
+ghost use Rattle.std.specs.List.{sum_by};
 ghost use Rattle.qn_net.specs.NetworkValues.{passing_place};
 ghost use Rattle.qn_plan.specs.Planned.{first_wide, planned};
+ghost use Rattle.qn_engine.specs.Evaluated.{IsValueOf};
 ghost use Rattle.qn_parts.specs.Faults.{fault};
 ghost use Rattle.qn_parts.specs.TensorTexts.{tensor_text};
 ghost use Rattle.qn_doc.specs.Networks.{any_network};
 ghost use Rattle.qn_texts.specs.PlanTexts.{plan_text};
 ghost use Rattle.qn_words.specs.declared.words.Job.TheVariants.{Contract, Plan};
-ghost use Rattle.qn_cli.specs.Outcomes.{IsNetworkIn, Contracts, Plans, Multiplies, answered, value_tensor};
+ghost use Rattle.qn_cli.specs.Outcomes.{answered};
+ghost use Rattle.qn_cli.specs.Networks.{IsNetworkIn, value_tensor, Contracts, Plans};
+ghost use Rattle.qn_cli.specs.Jobs.{Multiplies};
 ghost use Rattle.qn_cli.specs.Answers.{IsReadFault, IsPlanRefusal, IsValueRefusal, IsWithinPlan, Refuses};
 
 use crate::status::Status;
@@ -19,7 +23,7 @@ use qn_gauss::Steps;
 use qn_net::Network;
 use qn_pair::Gate;
 use qn_parts::{DocFault, Fault, write_tensor};
-use qn_plan::{PlanFault, plan};
+use qn_plan::{PlanFault, Step, plan};
 use qn_texts::write_plan;
 use std::alloc::Global;
 use std::sync::ledger::Ledger;
@@ -46,16 +50,30 @@ fn wide(step: u32) -> Status
     }
 }
 
+/// The steps of a network's plan, or the status in their place.
+pub(crate) fn plan_steps<const K: usize>(
+    alloc: Global,
+    net: &Network<K>,
+) -> Result<Vec<Step>, Status>
+    ensures steps { IfOk result (λ v. v.items ≡ planned net.now) }
+    ensures bounded { IfOk result (λ v. sum_by (λ t. t.cost) v.items < 2 ^ 64) }
+    ensures few { IfOk result (λ v. length v.items ≤ 8448) }
+    ensures narrow { OnOk result (first_wide net.now ≡ None) }
+    ensures status { IfErr result (IsPlanRefusal net.now) }
+{
+    match plan(alloc, net) {
+        Ok(steps) => Ok(steps),
+        Err(PlanFault::StepWide { step }) => Err(wide(step)),
+        Err(PlanFault::Memory) => Err(Status::Memory),
+    }
+}
+
 /// The text of a network's plan, or the status in its place.
 fn plan_text_of<const K: usize>(alloc: Global, net: &Network<K>) -> Result<Vec<u8>, Status>
     ensures text { IfOk result (λ text. (first_wide net.now ≡ None) × (text.items ≡ plan_text (planned net.now))) }
     ensures status { IfErr result (IsPlanRefusal net.now) }
 {
-    let steps = match plan(alloc, net) {
-        Ok(steps) => steps,
-        Err(PlanFault::StepWide { step }) => return Err(wide(step)),
-        Err(PlanFault::Memory) => return Err(Status::Memory),
-    };
+    let steps = plan_steps(alloc, net)?;
     match write_plan(alloc, &steps) {
         Ok(text) => Ok(text),
         Err(_) => Err(Status::Memory),
@@ -64,7 +82,7 @@ fn plan_text_of<const K: usize>(alloc: Global, net: &Network<K>) -> Result<Vec<u
 
 /// The value of a network, or the status in its place.
 #[tactic(auto, using(crate::proofs::Costs::within_plan))]
-fn value_of<const K: usize, R: Threads + Sync, G: Gate, L: Ledger>(
+pub(crate) fn value_of<const K: usize, R: Threads + Sync, G: Gate, L: Ledger>(
     rt: &R,
     alloc: Global,
     workers: u32,
@@ -75,6 +93,7 @@ fn value_of<const K: usize, R: Threads + Sync, G: Gate, L: Ledger>(
     requires some { 1 ≤ workers }
     requires few { workers ≤ 64 }
     ensures value { IfOk result (λ t. (first_wide net.now ≡ None) × (passing_place net.now ≡ None) × (t ≡ value_tensor net.now)) }
+    ensures evaluated { IfOk result (IsValueOf net.now) }
     ensures status { IfErr result (IsValueRefusal net.now) }
     ensures cost { IsWithinPlan net.now steps.old steps.new }
 {
@@ -91,7 +110,7 @@ fn value_of<const K: usize, R: Threads + Sync, G: Gate, L: Ledger>(
 }
 
 /// The text of a network's value, or the status in its place.
-fn value_text<const K: usize, R: Threads + Sync, G: Gate, L: Ledger>(
+pub(crate) fn value_text<const K: usize, R: Threads + Sync, G: Gate, L: Ledger>(
     rt: &R,
     alloc: Global,
     workers: u32,

@@ -9,8 +9,6 @@ use qn_parts::Fault;
 pub enum Status {
     /// The whole text was written.
     Done,
-    /// The words or the document ask for what isn't built yet.
-    NotBuilt,
     /// The words don't fit; `word` is the place, from 1, of the first that doesn't.
     Usage { word: u32 },
     /// The document's first fault.
@@ -33,7 +31,6 @@ impl Status {
     {
         match self {
             Status::Done => 0,
-            Status::NotBuilt => 8,
             Status::Usage { .. } => 2,
             Status::Malformed { .. } => 3,
             Status::Passed { .. } => 4,

@@ -148,7 +148,6 @@ pub fn tell<E: Sink>(err: &mut E, status: &Status) -> Result<(), WriteFault>
 {
     match status {
         Status::Done => Ok(()),
-        Status::NotBuilt => write_line(err, b"qntn: not built\n"),
         Status::Usage { word } => write_usage(err, *word),
         Status::Malformed { fault } => write_fault(err, *fault),
         Status::Passed { step, at, offset } => write_passed(err, *step, at.as_slice(), *offset),

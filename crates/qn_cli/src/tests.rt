@@ -1,4 +1,4 @@
-ghost use Rattle.std.specs.Prelude.{◌≡◌, ◌<◌};
+ghost use Rattle.std.specs.Prelude.{◌≡◌, ◌<◌, length};
 
 use crate::status::Status;
 use crate::tell::tell;
@@ -117,6 +117,29 @@ const FUSED: &str =
 const FOUR_FACTORS: &str =
     "{\"group\":[{\"fermion\":true,\"kind\":\"u1\"},{\"fermion\":false,\"kind\":\"u1\"},{\"fermion\":true,\"kind\":\"zn\",\"n\":2},{\"fermion\":false,\"kind\":\"zn\",\"n\":3}],\"tensors\":[{\"legs\":[],\"flux\":[0,0,0,0],\"blocks\":[[[],[[\"0\",\"-1\"]]]],\"labels\":[]}]}";
 
+// The state 2i |10> + 3 |01> of two fermion sites, with itself.
+const STATES: &str =
+    "{\"group\":[{\"fermion\":true,\"kind\":\"u1\"}],\"sites\":[{\"kind\":\"fermion\"},{\"kind\":\"fermion\"}],\"bra\":[{\"legs\":[{\"dir\":\"out\",\"sectors\":[[[0],1],[[1],1]]},{\"dir\":\"in\",\"sectors\":[[[0],1],[[1],1]]}],\"flux\":[0],\"blocks\":[[[0,0],[1]],[[1,1],[[0,1]]]]},{\"legs\":[{\"dir\":\"out\",\"sectors\":[[[0],1],[[1],1]]},{\"dir\":\"out\",\"sectors\":[[[0],1],[[1],1]]}],\"flux\":[1],\"blocks\":[[[0,1],[3]],[[1,0],[2]]]}],\"ket\":[{\"legs\":[{\"dir\":\"out\",\"sectors\":[[[0],1],[[1],1]]},{\"dir\":\"in\",\"sectors\":[[[0],1],[[1],1]]}],\"flux\":[0],\"blocks\":[[[0,0],[1]],[[1,1],[[0,1]]]]},{\"legs\":[{\"dir\":\"out\",\"sectors\":[[[0],1],[[1],1]]},{\"dir\":\"out\",\"sectors\":[[[0],1],[[1],1]]}],\"flux\":[1],\"blocks\":[[[0,1],[3]],[[1,0],[2]]]}]}";
+
+const STATES_HOPPING: &str =
+    "{\"group\":[{\"fermion\":true,\"kind\":\"u1\"}],\"sites\":[{\"kind\":\"fermion\"},{\"kind\":\"fermion\"}],\"terms\":[{\"coef\":1,\"ops\":[[1,\"Cdag\"],[2,\"C\"]]}],\"bra\":[{\"legs\":[{\"dir\":\"out\",\"sectors\":[[[0],1],[[1],1]]},{\"dir\":\"in\",\"sectors\":[[[0],1],[[1],1]]}],\"flux\":[0],\"blocks\":[[[0,0],[1]],[[1,1],[[0,1]]]]},{\"legs\":[{\"dir\":\"out\",\"sectors\":[[[0],1],[[1],1]]},{\"dir\":\"out\",\"sectors\":[[[0],1],[[1],1]]}],\"flux\":[1],\"blocks\":[[[0,1],[3]],[[1,0],[2]]]}],\"ket\":[{\"legs\":[{\"dir\":\"out\",\"sectors\":[[[0],1],[[1],1]]},{\"dir\":\"in\",\"sectors\":[[[0],1],[[1],1]]}],\"flux\":[0],\"blocks\":[[[0,0],[1]],[[1,1],[[0,1]]]]},{\"legs\":[{\"dir\":\"out\",\"sectors\":[[[0],1],[[1],1]]},{\"dir\":\"out\",\"sectors\":[[[0],1],[[1],1]]}],\"flux\":[1],\"blocks\":[[[0,1],[3]],[[1,0],[2]]]}]}";
+
+const STATES_EXCHANGED: &str =
+    "{\"group\":[{\"fermion\":true,\"kind\":\"u1\"}],\"sites\":[{\"kind\":\"fermion\"},{\"kind\":\"fermion\"}],\"terms\":[{\"coef\":1,\"ops\":[[2,\"C\"],[1,\"Cdag\"]]}],\"bra\":[{\"legs\":[{\"dir\":\"out\",\"sectors\":[[[0],1],[[1],1]]},{\"dir\":\"in\",\"sectors\":[[[0],1],[[1],1]]}],\"flux\":[0],\"blocks\":[[[0,0],[1]],[[1,1],[[0,1]]]]},{\"legs\":[{\"dir\":\"out\",\"sectors\":[[[0],1],[[1],1]]},{\"dir\":\"out\",\"sectors\":[[[0],1],[[1],1]]}],\"flux\":[1],\"blocks\":[[[0,1],[3]],[[1,0],[2]]]}],\"ket\":[{\"legs\":[{\"dir\":\"out\",\"sectors\":[[[0],1],[[1],1]]},{\"dir\":\"in\",\"sectors\":[[[0],1],[[1],1]]}],\"flux\":[0],\"blocks\":[[[0,0],[1]],[[1,1],[[0,1]]]]},{\"legs\":[{\"dir\":\"out\",\"sectors\":[[[0],1],[[1],1]]},{\"dir\":\"out\",\"sectors\":[[[0],1],[[1],1]]}],\"flux\":[1],\"blocks\":[[[0,1],[3]],[[1,0],[2]]]}]}";
+
+const STATES_LARGE_TWICE: &str =
+    "{\"group\":[{\"fermion\":true,\"kind\":\"u1\"}],\"sites\":[{\"kind\":\"fermion\"},{\"kind\":\"fermion\"}],\"terms\":[{\"coef\":\"85070591730234615865843651857942052864\",\"ops\":[[1,\"Cdag\"],[2,\"C\"]]},{\"coef\":\"85070591730234615865843651857942052864\",\"ops\":[[1,\"Cdag\"],[2,\"C\"]]}],\"bra\":[{\"legs\":[{\"dir\":\"out\",\"sectors\":[[[0],1],[[1],1]]},{\"dir\":\"in\",\"sectors\":[[[0],1],[[1],1]]}],\"flux\":[0],\"blocks\":[[[0,0],[1]],[[1,1],[[0,1]]]]},{\"legs\":[{\"dir\":\"out\",\"sectors\":[[[0],1],[[1],1]]},{\"dir\":\"out\",\"sectors\":[[[0],1],[[1],1]]}],\"flux\":[1],\"blocks\":[[[0,1],[3]],[[1,0],[2]]]}],\"ket\":[{\"legs\":[{\"dir\":\"out\",\"sectors\":[[[0],1],[[1],1]]},{\"dir\":\"in\",\"sectors\":[[[0],1],[[1],1]]}],\"flux\":[0],\"blocks\":[[[0,0],[1]],[[1,1],[[0,1]]]]},{\"legs\":[{\"dir\":\"out\",\"sectors\":[[[0],1],[[1],1]]},{\"dir\":\"out\",\"sectors\":[[[0],1],[[1],1]]}],\"flux\":[1],\"blocks\":[[[0,1],[3]],[[1,0],[2]]]}]}";
+
+// The bra with one fermion, and a ket with none.
+const STATES_OF_TWO_FLUXES: &str =
+    "{\"group\":[{\"fermion\":true,\"kind\":\"u1\"}],\"sites\":[{\"kind\":\"fermion\"},{\"kind\":\"fermion\"}],\"bra\":[{\"legs\":[{\"dir\":\"out\",\"sectors\":[[[0],1],[[1],1]]},{\"dir\":\"in\",\"sectors\":[[[0],1],[[1],1]]}],\"flux\":[0],\"blocks\":[[[0,0],[1]],[[1,1],[[0,1]]]]},{\"legs\":[{\"dir\":\"out\",\"sectors\":[[[0],1],[[1],1]]},{\"dir\":\"out\",\"sectors\":[[[0],1],[[1],1]]}],\"flux\":[1],\"blocks\":[[[0,1],[3]],[[1,0],[2]]]}],\"ket\":[{\"legs\":[{\"dir\":\"out\",\"sectors\":[[[0],1],[[1],1]]},{\"dir\":\"in\",\"sectors\":[[[0],1],[[1],1]]}],\"flux\":[0],\"blocks\":[[[0,0],[1]],[[1,1],[[0,1]]]]},{\"legs\":[{\"dir\":\"out\",\"sectors\":[[[0],1],[[1],1]]},{\"dir\":\"out\",\"sectors\":[[[0],1],[[1],1]]}],\"flux\":[0],\"blocks\":[[[0,0],[5]]]}]}";
+
+const STATE_TOO_SHORT: &str =
+    "{\"group\":[{\"fermion\":true,\"kind\":\"u1\"}],\"sites\":[{\"kind\":\"fermion\"},{\"kind\":\"fermion\"}],\"bra\":[{\"legs\":[{\"dir\":\"out\",\"sectors\":[[[0],1],[[1],1]]},{\"dir\":\"in\",\"sectors\":[[[0],1],[[1],1]]}],\"flux\":[0],\"blocks\":[[[0,0],[1]],[[1,1],[[0,1]]]]},{\"legs\":[{\"dir\":\"out\",\"sectors\":[[[0],1],[[1],1]]},{\"dir\":\"out\",\"sectors\":[[[0],1],[[1],1]]}],\"flux\":[1],\"blocks\":[[[0,1],[3]],[[1,0],[2]]]}],\"ket\":[{\"legs\":[{\"dir\":\"out\",\"sectors\":[[[0],1],[[1],1]]},{\"dir\":\"in\",\"sectors\":[[[0],1],[[1],1]]}],\"flux\":[0],\"blocks\":[[[0,0],[1]],[[1,1],[[0,1]]]]}]}";
+
+const STATES_PAST_THE_LIMIT: &str =
+    "{\"group\":[{\"fermion\":true,\"kind\":\"u1\"}],\"sites\":[{\"kind\":\"fermion\"}],\"bra\":[{\"legs\":[{\"dir\":\"out\",\"sectors\":[[[0],1],[[1],1]]}],\"flux\":[1],\"blocks\":[[[1],[\"85070591730234615865843651857942052864\"]]]}],\"ket\":[{\"legs\":[{\"dir\":\"out\",\"sectors\":[[[0],1],[[1],1]]}],\"flux\":[1],\"blocks\":[[[1],[2]]]}]}";
+
 const OTHER_KEY: &str =
     "{\"group\":[{\"fermion\":true,\"kind\":\"u1\"},{\"fermion\":false,\"kind\":\"u1\"},{\"fermion\":true,\"kind\":\"zn\",\"n\":2},{\"fermion\":false,\"kind\":\"zn\",\"n\":3}],\"tensors\":[{\"legs\":[],\"flux\":[0,0,0,0],\"blocks\":[[[],[[\"0\",\"-1\"]]]],\"labels\":[]}],\"note\":\"x\"}";
 
@@ -132,7 +155,32 @@ const LARGE_ENTRIES: &str =
 const LARGEST_PRODUCT: &str =
     "{\"group\":[],\"tensors\":[{\"legs\":[{\"dir\":\"out\",\"sectors\":[[[],1]]}],\"flux\":[],\"blocks\":[[[0],[-9223372036854775808]]],\"labels\":[1]},{\"legs\":[{\"dir\":\"in\",\"sectors\":[[[],1]]}],\"flux\":[],\"blocks\":[[[0],[-9223372036854775808]]],\"labels\":[1]}]}";
 
-const NOT_BUILT: &str = "qntn: not built\n";
+const HOPPING: &str =
+    "{\"group\":[{\"fermion\":true,\"kind\":\"u1\"}],\"sites\":[{\"kind\":\"fermion\"},{\"kind\":\"fermion\"}],\"terms\":[{\"coef\":1,\"ops\":[[1,\"Cdag\"],[2,\"C\"]]}]}";
+
+const HOPPING_EXCHANGED: &str =
+    "{\"group\":[{\"fermion\":true,\"kind\":\"u1\"}],\"sites\":[{\"kind\":\"fermion\"},{\"kind\":\"fermion\"}],\"terms\":[{\"coef\":1,\"ops\":[[2,\"C\"],[1,\"Cdag\"]]}]}";
+
+const MIXED_FLUX: &str =
+    "{\"group\":[{\"fermion\":true,\"kind\":\"u1\"}],\"sites\":[{\"kind\":\"fermion\"},{\"kind\":\"fermion\"}],\"terms\":[{\"coef\":1,\"ops\":[[1,\"Cdag\"],[2,\"C\"]]},{\"coef\":1,\"ops\":[[1,\"Cdag\"]]}]}";
+
+const NO_TERMS: &str =
+    "{\"group\":[{\"fermion\":true,\"kind\":\"u1\"}],\"sites\":[{\"kind\":\"fermion\"},{\"kind\":\"fermion\"}],\"terms\":[]}";
+
+const LARGE_TWICE: &str =
+    "{\"group\":[{\"fermion\":true,\"kind\":\"u1\"}],\"sites\":[{\"kind\":\"fermion\"},{\"kind\":\"fermion\"}],\"terms\":[{\"coef\":\"85070591730234615865843651857942052864\",\"ops\":[[1,\"Cdag\"],[2,\"C\"]]},{\"coef\":\"85070591730234615865843651857942052864\",\"ops\":[[1,\"Cdag\"],[2,\"C\"]]}]}";
+
+const HOPPING_NETWORK: &str =
+    "{\"group\":[{\"fermion\":true,\"kind\":\"u1\"}],\"order\":[1],\"tensors\":[{\"blocks\":[[[1,0,0],[[\"1\",\"0\"]]]],\"flux\":[0],\"labels\":[-1,-4,1],\"legs\":[{\"dir\":\"out\",\"sectors\":[[[0],1],[[1],1]]},{\"dir\":\"in\",\"sectors\":[[[0],1],[[1],1]]},{\"dir\":\"in\",\"sectors\":[[[1],1]]}]},{\"blocks\":[[[0,0,1],[[\"1\",\"0\"]]]],\"flux\":[0],\"labels\":[1,-2,-3],\"legs\":[{\"dir\":\"out\",\"sectors\":[[[1],1]]},{\"dir\":\"out\",\"sectors\":[[[0],1],[[1],1]]},{\"dir\":\"in\",\"sectors\":[[[0],1],[[1],1]]}]}]}\n";
+
+const EXCHANGED_NETWORK: &str =
+    "{\"group\":[{\"fermion\":true,\"kind\":\"u1\"}],\"order\":[1],\"tensors\":[{\"blocks\":[[[1,0,0],[[\"-1\",\"0\"]]]],\"flux\":[0],\"labels\":[-1,-4,1],\"legs\":[{\"dir\":\"out\",\"sectors\":[[[0],1],[[1],1]]},{\"dir\":\"in\",\"sectors\":[[[0],1],[[1],1]]},{\"dir\":\"in\",\"sectors\":[[[1],1]]}]},{\"blocks\":[[[0,0,1],[[\"1\",\"0\"]]]],\"flux\":[0],\"labels\":[1,-2,-3],\"legs\":[{\"dir\":\"out\",\"sectors\":[[[1],1]]},{\"dir\":\"out\",\"sectors\":[[[0],1],[[1],1]]},{\"dir\":\"in\",\"sectors\":[[[0],1],[[1],1]]}]}]}\n";
+
+const THREE_SITES: &str =
+    "{\"group\":[{\"fermion\":true,\"kind\":\"u1\"}],\"sites\":[{\"kind\":\"fermion\"},{\"kind\":\"fermion\"},{\"kind\":\"fermion\"}],\"terms\":[{\"coef\":1,\"ops\":[[1,\"Cdag\"],[3,\"C\"]]}]}";
+
+const THREE_NETWORK: &str =
+    "{\"group\":[{\"fermion\":true,\"kind\":\"u1\"}],\"order\":[1,2],\"tensors\":[{\"blocks\":[[[1,0,0],[[\"1\",\"0\"]]]],\"flux\":[0],\"labels\":[-1,-6,1],\"legs\":[{\"dir\":\"out\",\"sectors\":[[[0],1],[[1],1]]},{\"dir\":\"in\",\"sectors\":[[[0],1],[[1],1]]},{\"dir\":\"in\",\"sectors\":[[[1],1]]}]},{\"blocks\":[[[0,0,0,0],[[\"1\",\"0\"]]],[[0,1,1,0],[[\"1\",\"0\"]]]],\"flux\":[0],\"labels\":[1,-2,-5,2],\"legs\":[{\"dir\":\"out\",\"sectors\":[[[1],1]]},{\"dir\":\"out\",\"sectors\":[[[0],1],[[1],1]]},{\"dir\":\"in\",\"sectors\":[[[0],1],[[1],1]]},{\"dir\":\"in\",\"sectors\":[[[1],1]]}]},{\"blocks\":[[[0,0,1],[[\"1\",\"0\"]]]],\"flux\":[0],\"labels\":[2,-3,-4],\"legs\":[{\"dir\":\"out\",\"sectors\":[[[1],1]]},{\"dir\":\"out\",\"sectors\":[[[0],1],[[1],1]]},{\"dir\":\"in\",\"sectors\":[[[0],1],[[1],1]]}]}]}\n";
 
 const TOO_LONG: &str = "qntn: malformed F1 tensor 0 part 0 item 0\n";
 
@@ -147,14 +195,15 @@ fn split(alloc: Global, line: &str) -> Result<Vec<String>, AllocError> {
     Ok(words)
 }
 
-// How one call ends over memory, with ten bytes a read and a write, where the reads and writes of
-// these numbers, from 1, fail.
+// How one call ends over memory, with ten bytes a read and a write and this much room for the
+// answer, where the reads and writes of these numbers, from 1, fail.
 fn ends<L: Ledger, R: Threads + Sync>(
     blank: Blank,
     rt: &R,
     alloc: Global,
     line: &str,
     bytes: Vec<u8>,
+    room: usize,
     failing: [u64; 3],
 ) -> Result<(Status, MemSink, MemSink), AllocError>
     requires name { blank.name ≡ L.name }
@@ -165,7 +214,7 @@ fn ends<L: Ledger, R: Threads + Sync>(
     let words = split(alloc, line)?;
     let piece = if bytes.len() < 1000 { 10 } else { bytes.len() };
     let mut source = MemSource::new(bytes, piece, vec![in alloc; read]?);
-    let mut out = MemSink::new(alloc, 1000, 10, vec![in alloc; write]?)?;
+    let mut out = MemSink::new(alloc, room, 10, vec![in alloc; write]?)?;
     let mut err = MemSink::new(alloc, 200, 10, vec![in alloc; error]?)?;
     let mut steps = Steps::<L>::new(blank);
     let status = run(
@@ -451,8 +500,133 @@ fn refusals() -> [Row; 12] {
     ]
 }
 
+fn operators() -> [Row; 9] {
+    [
+        written("mpo", HOPPING, HOPPING_NETWORK),
+        written("mpo", HOPPING_EXCHANGED, EXCHANGED_NETWORK),
+        written(
+            "contract",
+            HOPPING_NETWORK,
+            "{\"blocks\":[[[1,0,1,0],[[\"1\",\"0\"]]]],\"flux\":[0],\"group\":[{\"fermion\":true,\"kind\":\"u1\"}],\"legs\":[{\"dir\":\"out\",\"sectors\":[[[0],1],[[1],1]]},{\"dir\":\"out\",\"sectors\":[[[0],1],[[1],1]]},{\"dir\":\"in\",\"sectors\":[[[0],1],[[1],1]]},{\"dir\":\"in\",\"sectors\":[[[0],1],[[1],1]]}]}\n",
+        ),
+        written(
+            "contract",
+            EXCHANGED_NETWORK,
+            "{\"blocks\":[[[1,0,1,0],[[\"-1\",\"0\"]]]],\"flux\":[0],\"group\":[{\"fermion\":true,\"kind\":\"u1\"}],\"legs\":[{\"dir\":\"out\",\"sectors\":[[[0],1],[[1],1]]},{\"dir\":\"out\",\"sectors\":[[[0],1],[[1],1]]},{\"dir\":\"in\",\"sectors\":[[[0],1],[[1],1]]},{\"dir\":\"in\",\"sectors\":[[[0],1],[[1],1]]}]}\n",
+        ),
+        written("mpo", THREE_SITES, THREE_NETWORK),
+        written(
+            "contract",
+            THREE_NETWORK,
+            "{\"blocks\":[[[1,0,0,1,0,0],[[\"1\",\"0\"]]],[[1,1,0,1,1,0],[[\"-1\",\"0\"]]]],\"flux\":[0],\"group\":[{\"fermion\":true,\"kind\":\"u1\"}],\"legs\":[{\"dir\":\"out\",\"sectors\":[[[0],1],[[1],1]]},{\"dir\":\"out\",\"sectors\":[[[0],1],[[1],1]]},{\"dir\":\"out\",\"sectors\":[[[0],1],[[1],1]]},{\"dir\":\"in\",\"sectors\":[[[0],1],[[1],1]]},{\"dir\":\"in\",\"sectors\":[[[0],1],[[1],1]]},{\"dir\":\"in\",\"sectors\":[[[0],1],[[1],1]]}]}\n",
+        ),
+        refused(
+            "mpo",
+            MIXED_FLUX,
+            3,
+            "qntn: malformed F33 tensor 0 part 2 item 0\n",
+        ),
+        refused(
+            "mpo",
+            NO_TERMS,
+            3,
+            "qntn: malformed F29 tensor 0 part 0 item 0\n",
+        ),
+        refused(
+            "mpo",
+            LARGE_TWICE,
+            4,
+            "qntn: passed step 0 at [1] offset 0\n",
+        ),
+    ]
+}
+
+// The overlap of two states, and the expectation of hopping with its operators in both orders.
+fn states() -> [Row; 5] {
+    [
+        written(
+            "overlap",
+            STATES,
+            "{\"blocks\":[[[],[[\"13\",\"0\"]]]],\"flux\":[0],\"group\":[{\"fermion\":true,\"kind\":\"u1\"}],\"legs\":[]}\n",
+        ),
+        written(
+            "expect --workers 2",
+            STATES_HOPPING,
+            "{\"blocks\":[[[],[[\"0\",\"-6\"]]]],\"flux\":[0],\"group\":[{\"fermion\":true,\"kind\":\"u1\"}],\"legs\":[]}\n",
+        ),
+        written(
+            "expect",
+            STATES_EXCHANGED,
+            "{\"blocks\":[[[],[[\"0\",\"6\"]]]],\"flux\":[0],\"group\":[{\"fermion\":true,\"kind\":\"u1\"}],\"legs\":[]}\n",
+        ),
+        refused(
+            "expect",
+            STATES,
+            3,
+            "qntn: malformed F3 tensor 0 part 0 item 0\n",
+        ),
+        refused(
+            "expect",
+            STATES_LARGE_TWICE,
+            4,
+            "qntn: passed step 0 at [1] offset 0\n",
+        ),
+    ]
+}
+
+fn overlaps() -> [Row; 3] {
+    [
+        written(
+            "overlap --workers 3",
+            STATES_OF_TWO_FLUXES,
+            "{\"blocks\":[],\"flux\":[-1],\"group\":[{\"fermion\":true,\"kind\":\"u1\"}],\"legs\":[]}\n",
+        ),
+        refused(
+            "overlap",
+            STATE_TOO_SHORT,
+            3,
+            "qntn: malformed F34 tensor 200 part 0 item 0\n",
+        ),
+        refused(
+            "overlap",
+            STATES_PAST_THE_LIMIT,
+            4,
+            "qntn: passed step 1 at [] offset 0\n",
+        ),
+    ]
+}
+
+// Workloads for which nothing is read, though the first read would fail.
+fn workloads() -> [Row; 4] {
+    [
+        failing(
+            [1, 0, 0],
+            written(
+                "gen 7",
+                TWO,
+                "{\"cost\":37176,\"scalar\":[\"-1988538497530626\",\"0\"],\"sites\":15,\"steps\":44}\n",
+            ),
+        ),
+        written(
+            "gen 7 --workers 8",
+            "",
+            "{\"cost\":37176,\"scalar\":[\"-1988538497530626\",\"0\"],\"sites\":15,\"steps\":44}\n",
+        ),
+        written(
+            "gen 24",
+            "",
+            "{\"cost\":2450,\"scalar\":[\"0\",\"0\"],\"sites\":32,\"steps\":95}\n",
+        ),
+        written(
+            "gen 25",
+            "",
+            "{\"cost\":114288,\"scalar\":[\"294012808\",\"0\"],\"sites\":8,\"steps\":23}\n",
+        ),
+    ]
+}
+
 // Failing sources and sinks, bytes that are no document, and words.
-fn failures() -> [Row; 13] {
+fn failures() -> [Row; 12] {
     [
         written("contract --workers 64", TWO, ELEVEN),
         refused("contract", "", 3, NOT_JSON),
@@ -466,7 +640,6 @@ fn failures() -> [Row; 13] {
         failing([0, 0, 1], refused("contract", CUT, 3, "")),
         failing([0, 0, 2], refused("contract", CUT, 3, "qntn: malf")),
         failing([0, 0, 1], written("contract", TWO, ELEVEN)),
-        unread("mpo", 8, NOT_BUILT),
         unread("solve", 2, "qntn: usage word 1\n"),
         unread("plan --workers 2", 2, "qntn: usage word 2\n"),
         unread("contract --workers 064", 2, "qntn: usage word 3\n"),
@@ -485,7 +658,7 @@ fn ends_so<L: Ledger, R: Threads + Sync>(
     requires parts { blank.parts ≡ L.parts }
     requires some { 0 < L.parts }
 {
-    let (status, out, err) = ends::<L, R>(blank, rt, alloc, row.words, bytes, row.failing)?;
+    let (status, out, err) = ends::<L, R>(blank, rt, alloc, row.words, bytes, 1000, row.failing)?;
     Ok(
         status.exit_number() == row.exit
             && out.held() == row.held.as_bytes()
@@ -535,6 +708,22 @@ fn answers(rt: HostRuntime) -> Result<(), Fail> {
         assert!(rt; holds, "{} {}", row.words, row.text);
     }
     for row in refusals() {
+        let holds = holds::<Brand, _>(Blank::new(1), &rt, rt.alloc(), row)?;
+        assert!(rt; holds, "{} {}", row.words, row.text);
+    }
+    for row in operators() {
+        let holds = holds::<Brand, _>(Blank::new(1), &rt, rt.alloc(), row)?;
+        assert!(rt; holds, "{} {}", row.words, row.text);
+    }
+    for row in overlaps() {
+        let holds = holds::<Brand, _>(Blank::new(1), &rt, rt.alloc(), row)?;
+        assert!(rt; holds, "{} {}", row.words, row.text);
+    }
+    for row in states() {
+        let holds = holds::<Brand, _>(Blank::new(1), &rt, rt.alloc(), row)?;
+        assert!(rt; holds, "{} {}", row.words, row.text);
+    }
+    for row in workloads() {
         let holds = holds::<Brand, _>(Blank::new(1), &rt, rt.alloc(), row)?;
         assert!(rt; holds, "{} {}", row.words, row.text);
     }
@@ -590,5 +779,92 @@ fn lines(rt: HostRuntime) -> Result<(), Fail> {
         assert_eq!(rt; status.exit_number(), exit);
         assert!(rt; err.held() == line.as_bytes(), "{line}");
     }
+    Ok(())
+}
+
+// A fermion of this spin goes from one site to another.
+fn hop(alloc: Global, to: u32, from: u32, spin: &str) -> Result<String, AllocError> {
+    format!(in alloc; "{{\"coef\":-1,\"ops\":[[{to},\"Cdag{spin}\"],[{from},\"C{spin}\"]]}},")
+}
+
+// Hopping between neighbours among this many sites, both ways and with both spins.
+fn hops(alloc: Global, count: u32) -> Result<String, AllocError> {
+    let mut text = String::new(alloc);
+    for j in 1..count {
+        let next = j + 1;
+        text.push_str(&hop(alloc, j, next, "up")?)?;
+        text.push_str(&hop(alloc, next, j, "up")?)?;
+        text.push_str(&hop(alloc, j, next, "dn")?)?;
+        text.push_str(&hop(alloc, next, j, "dn")?)?;
+    }
+    Ok(text)
+}
+
+// The repulsion of two electrons on one of this many sites, for each but the last.
+fn repulsions(alloc: Global, count: u32) -> Result<String, AllocError> {
+    let mut text = String::new(alloc);
+    for j in 1..count {
+        let term = format!(in alloc; "{{\"coef\":4,\"ops\":[[{j},\"Nup\"],[{j},\"Ndn\"]]}},")?;
+        text.push_str(&term)?;
+    }
+    Ok(text)
+}
+
+// The Hubbard chain of this many sites.
+fn hubbard(alloc: Global, count: u32) -> Result<String, AllocError> {
+    let mut sites = String::new(alloc);
+    for _ in 1..count {
+        sites.push_str("{\"kind\":\"electron\"},")?;
+    }
+    let hops = hops(alloc, count)?;
+    let repulsions = repulsions(alloc, count)?;
+    format!(in alloc;
+        "{{\"group\":[{{\"fermion\":true,\"kind\":\"u1\"}},{{\"fermion\":false,\"kind\":\"u1\"}}],\"sites\":[{sites}{{\"kind\":\"electron\"}}],\"terms\":[{hops}{repulsions}{{\"coef\":4,\"ops\":[[{count},\"Nup\"],[{count},\"Ndn\"]]}}]}}"
+    )
+}
+
+// How often the part stands in the text.
+fn times(text: &[u8], part: &[u8]) -> u32
+    requires { 0 < length part.now }
+{
+    let mut count: u32 = 0;
+    for window in text.windows(part.len()) {
+        if window == part {
+            count = count.saturating_add(1);
+        }
+    }
+    count
+}
+
+// Whether the automaton of the Hubbard chain of 64 sites has two legs for each site, and two for
+// each link, whose charges are those of a hopping electron of either spin.
+fn electrons_hold<L: Ledger, R: Threads + Sync>(
+    blank: Blank,
+    rt: &R,
+    alloc: Global,
+    room: usize,
+) -> Result<bool, AllocError>
+    requires name { blank.name ≡ L.name }
+    requires parts { blank.parts ≡ L.parts }
+    requires some { 0 < L.parts }
+{
+    let bytes = hubbard(alloc, 64)?.into_bytes();
+    let (status, out, _err) = ends::<L, R>(blank, rt, alloc, "mpo", bytes, room, [0, 0, 0])?;
+    let all = times(out.held(), b"\"sectors\":");
+    let sites = times(
+        out.held(),
+        b"\"sectors\":[[[0,0],1],[[1,1],1],[[1,-1],1],[[2,0],1]]}",
+    );
+    let links = times(
+        out.held(),
+        b"\"sectors\":[[[-1,-1],1],[[-1,1],1],[[0,0],2],[[1,-1],1],[[1,1],1]]}",
+    );
+    Ok(status.exit_number() == 0 && all == 254 && sites == 128 && links == 126)
+}
+
+#[test]
+fn electrons(rt: HostRuntime) -> Result<(), Fail> {
+    let holds = electrons_hold::<Brand, _>(Blank::new(1), &rt, rt.alloc(), 100_000)?;
+    assert!(rt; holds);
     Ok(())
 }

@@ -1,7 +1,7 @@
 use Rattle.qn_cli.proofs.tell.tell.Goals as goal
 
-pub returns-in-NotBuilt-clause-part : goal.returns-in-NotBuilt-clause-part
-returns-in-NotBuilt-clause-part g c = rw c.in-NotBuilt.is c.write_line.ensures.part
+pub returns-in-ReadFault-clause-part : goal.returns-in-ReadFault-clause-part
+returns-in-ReadFault-clause-part g c = rw c.in-ReadFault.is c.write_line.ensures.part
 
 pub returns-in-WriteFault-clause-whole : goal.returns-in-WriteFault-clause-whole
 returns-in-WriteFault-clause-whole g c = rw c.in-WriteFault.is c.write_line-in-WriteFault.ensures.whole
