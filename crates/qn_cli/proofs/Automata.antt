@@ -1,10 +1,8 @@
 -- The text of the automaton of an operator sum is that of the chain that was built.
-use Rattle.std.proofs.Common.{◌≡◌, ◌<◌, ℕ, ℤ, List, [], ◌∷◌, map, length, filter, refl, sym, ◌∙◌, ap, subst, Bool, true, None}
-use Rattle.std.specs.List.{All, range_with_len}
+use Rattle.std.proofs.Common.{◌≡◌, ◌<◌, ℕ, ℤ, List, length, filter, refl, sym, ◌∙◌, ap, subst}
+use Rattle.std.specs.List.{All}
 use Rattle.std.proofs.lemmas.List.Elements.{All-get_or, All-from_get_or, filter_passes}
 use Rattle.std.proofs.lemmas.List.FromFn.{fill_by_all}
-use Rattle.serde_json.specs.Data.{Data}
-use Rattle.qn_sign.specs.Positions.{positions}
 use Rattle.qn_gauss.specs.Gaussian.{Gaussian}
 use Rattle.qn_charge.specs.declared.factor.Factor.{Factor}
 use Rattle.qn_index.specs.Legs.{LegValue}
@@ -17,7 +15,7 @@ use Rattle.qn_block.proofs.Ascending.{filtered_is, filtered_entry}
 use Rattle.qn_block.proofs.Canonical.{blocks_by_entries}
 use Rattle.qn_opsum.specs.Sums.{SumValue}
 use Rattle.qn_auto.specs.SumAutomaton.{IsTensorAt, legs_at, flux_at, entry_at_site}
-use Rattle.qn_braket.specs.Chains.{tensor_at, no_tensor, operator_members, operator_network}
+use Rattle.qn_braket.specs.Chains.{tensor_at, no_tensor}
 use Rattle.qn_mps.specs.Chains.{ChainValue, IsHeld, IsTensorOf}
 use Rattle.qn_mpo.specs.Builds.{IsBuilt}
 use Rattle.qn_cli.specs.Operators.{site_tensor, automaton}

@@ -1,15 +1,14 @@
 -- The tensors of an automaton have the flux of the sum together.
-use Rattle.std.proofs.Common.{◌≡◌, ◌<◌, ◌+◌, ◌==◌, ℕ, zero, suc, ℤ, List, [], ◌∷◌, length, map, Bool, true, false, if◌then◌else◌, eq-eqb, refl, sym, ap, ap₂, ◌∙◌, arith}
+use Rattle.std.proofs.Common.{◌≡◌, ◌<◌, ◌+◌, ℕ, zero, suc, ℤ, List, length, map, if◌then◌else◌, eq-eqb, refl, ap, ap₂, ◌∙◌, arith}
 use Rattle.std.proofs.lemmas.Bool.{ne_eqb}
 use Rattle.std.specs.List.{range_with_len}
-use Rattle.qn_charge.specs.declared.factor.Factor.{Factor}
 use Rattle.qn_charge.specs.Charges.{sum_charge, zero_charge}
 use Rattle.qn_charge.specs.Laws.{commutative_charge, zero_is_neutral}
 use Rattle.qn_value.specs.Fluxes.{sum_flux}
 use Rattle.qn_block.specs.Blocked.{BlockedValue}
 use Rattle.qn_opsum.specs.Sums.{SumValue}
 use Rattle.qn_opsum.specs.Refusals.{IsSum}
-use Rattle.qn_auto.specs.SumAutomaton.{flux_at, is_last}
+use Rattle.qn_auto.specs.SumAutomaton.{flux_at}
 use Rattle.qn_braket.specs.Chains.{chain_flux}
 use Rattle.qn_cli.specs.Operators.{site_tensor, automaton}
 

@@ -1,5 +1,5 @@
 -- Which step is too wide does not depend on the entries of the tensors: a plan goes by their legs, their fluxes and their roles.
-use Rattle.std.proofs.Common.{◌≡◌, ℕ, suc, ℤ, ◌||◌, List, [], ◌∷◌, ◌++◌, map, Bool, true, false, Option, Some, None, if◌then◌else◌, nat_lt, refl, sym, ap, ap₂, ◌∙◌}
+use Rattle.std.proofs.Common.{◌≡◌, ℕ, suc, ℤ, List, [], ◌∷◌, ◌++◌, map, Bool, true, false, Option, Some, None, if◌then◌else◌, nat_lt, refl, sym, ap, ap₂, ◌∙◌}
 use Rattle.std.proofs.lemmas.List.{map-append}
 use Rattle.std.specs.Ordering.{int_eq}
 use Rattle.qn_sign.specs.Sign.{is_in, xor}

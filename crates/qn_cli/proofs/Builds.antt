@@ -1,12 +1,11 @@
 -- What the faults of a build stand for.
-use Rattle.std.proofs.Common.{◌≡◌, ℕ, zero, suc, List, [], ◌∷◌, refl, sym, subst}
+use Rattle.std.proofs.Common.{◌≡◌, ℕ, zero, suc, refl, sym, subst}
 use Rattle.qn_opsum.specs.Sums.{SumValue}
 use Rattle.qn_parts.specs.Faults.{fault}
 use Rattle.qn_mpo.specs.declared.fault.BuildFault.TheVariants.{Wide, Passed as PassedAt}
 use Rattle.qn_mpo.specs.Builds.{IsBuildFault}
 use Rattle.qn_cli.specs.declared.status.Status.{Status}
 use Rattle.qn_cli.specs.declared.status.Status.TheVariants.{Done, Usage, Malformed, Passed, ReadFault, WriteFault, Memory}
-use Rattle.qn_cli.specs.Operators.{IsWideSite, IsPassingSite}
 use Rattle.qn_cli.specs.Answers.{IsBuildRefusal, IsPassedAt}
 
 pub wide_refusal : (v : SumValue) (site : ℕ) (s : Status) → IsBuildFault v (Wide site) → s ≡ Malformed (fault 27 0 0 site) → IsBuildRefusal v s

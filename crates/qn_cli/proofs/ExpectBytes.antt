@@ -1,5 +1,5 @@
 -- What the states and the sum that the bytes say come to, the bytes come to.
-use Rattle.std.proofs.Common.{◌≡◌, inl, inr, ◌+◌, ◌≤◌, ℕ, List, None, map, refl, sym, ◌∙◌, ap}
+use Rattle.std.proofs.Common.{◌≡◌, inl, inr, ℕ, List, None, map, refl, sym, ◌∙◌, ap}
 use Rattle.std.specs.Prelude.{Option, Some, true}
 use Rattle.std.specs.Option.{IsSomeAnd}
 use Rattle.serde_json.specs.Data.{Data}
@@ -7,7 +7,6 @@ use Rattle.qn_sites.specs.Sites.{SiteValue}
 use Rattle.qn_opsum.specs.Sums.{SumValue}
 use Rattle.qn_mps.specs.Chains.{ChainValue}
 use Rattle.qn_parts.specs.Tree.{tree_of}
-use Rattle.qn_sumdoc.specs.Sums.{IsSumOf}
 use Rattle.qn_sumdoc.specs.StatesValues.{StatesValue}
 use Rattle.qn_sumdoc.specs.States.{AreStatesOf, IsOptionalSum}
 use Rattle.qn_words.specs.declared.words.Job.TheVariants.{Expect}

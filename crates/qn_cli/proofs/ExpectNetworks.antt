@@ -1,12 +1,12 @@
 -- What the network of two states with the automaton between them gives, as the outcome of their expectation.
-use Rattle.std.proofs.Common.{◌≡◌, ◌⊎◌, inl, inr, ◌+◌, ◌≤◌, ℕ, zero, suc, List, [], None, refl, sym, ◌∙◌, ap, subst, arith}
+use Rattle.std.proofs.Common.{◌≡◌, inl, inr, ◌+◌, ℕ, zero, suc, List, [], None, refl, sym, ◌∙◌, ap, subst, arith}
 use Rattle.qn_charge.specs.Charges.{sum_charge, neg_charge}
 use Rattle.qn_charge.specs.Firsts.{HasNone}
 use Rattle.qn_index.specs.Legs.{LegValue}
 use Rattle.qn_block.specs.Blocked.{BlockedValue}
 use Rattle.qn_net.specs.NetworkValues.{NetworkValue, passing_place, value}
 use Rattle.qn_opsum.specs.Sums.{SumValue}
-use Rattle.qn_auto.specs.SumAutomaton.{IsWideAt, PassesAt, made_of}
+use Rattle.qn_auto.specs.SumAutomaton.{IsWideAt, made_of}
 use Rattle.qn_paths.specs.Sums.{SumExpectationLaw, site_legs as legs_of_sites, sum_element}
 use Rattle.qn_opsum.specs.Refusals.{IsSum}
 use Rattle.qn_plan.specs.Planned.{first_wide, cost_of_plan}

@@ -1,5 +1,5 @@
 -- The first fault of the tensors of a chain is one, and a chain has none.
-use Rattle.std.proofs.Common.{◌≡◌, ℕ, zero, suc, List, Option, None, Some, refl, sym, ◌∙◌, ap}
+use Rattle.std.proofs.Common.{◌≡◌, zero, suc, List, refl, ap}
 use Rattle.qn_index.specs.Legs.{LegValue}
 use Rattle.qn_block.specs.Blocked.{BlockedValue}
 use Rattle.qn_mps.specs.declared.chain.ChainKind.{ChainKind}

@@ -1,5 +1,5 @@
 -- What is said of the tree of a document: a sum is told by it, and so is the first fault of its terms.
-use Rattle.std.proofs.Common.{◌≡◌, ◌⊎◌, ℕ, List, [], ◌∷◌, Option, Some, None, refl, sym, ap, subst, ◌∙◌}
+use Rattle.std.proofs.Common.{◌≡◌, Option, Some, None, sym, ap, subst, ◌∙◌}
 use Rattle.std.specs.Option.{IsSomeAnd}
 use Rattle.serde_json.specs.Data.{Data}
 use Rattle.qn_opsum.specs.Sums.{SumValue, charge_of, term_at}

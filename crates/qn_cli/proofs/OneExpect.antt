@@ -1,7 +1,7 @@
 -- An expectation comes to one outcome at most.
-use Rattle.std.proofs.Common.{◌≡◌, ◌⊎◌, inl, inr, ℕ, suc, List, [], ◌∷◌, None, refl, sym, ap, subst, ◌∙◌}
-use Rattle.qn_charge.specs.Firsts.{IsFirst, HasNone}
-use Rattle.qn_net.specs.NetworkValues.{NetworkValue, passing_place}
+use Rattle.std.proofs.Common.{◌≡◌, ◌⊎◌, inl, inr, ℕ, suc, List, [], ◌∷◌, sym, ap, subst, ◌∙◌}
+use Rattle.qn_charge.specs.Firsts.{HasNone}
+use Rattle.qn_net.specs.NetworkValues.{NetworkValue}
 use Rattle.qn_opsum.specs.Sums.{SumValue}
 use Rattle.qn_auto.specs.SumAutomaton.{IsWideAt, PassesAt}
 use Rattle.qn_mps.specs.SameNetworks.{IsSameNetwork, SameExpectLaw}
@@ -12,7 +12,7 @@ use Rattle.qn_cli.specs.Networks.{IsPassingPlace}
 use Rattle.qn_cli.specs.Operators.{IsWideSite, IsPassingSite, automaton}
 use Rattle.qn_cli.specs.Brakets.{BraketValue, SaysSuchSum, IsExpectOf, IsWideExpect, IsNarrowExpect, IsPassingExpect, IsExpectText, Expects}
 use Rattle.qn_cli.proofs.OneSumFault.{first_once}
-use Rattle.qn_cli.proofs.OneNetwork.{one_wide_step, no_wide_step, none_wide_step, one_place, no_place, none_place}
+use Rattle.qn_cli.proofs.OneNetwork.{one_wide_step, no_wide_step, one_place, no_place}
 use Rattle.qn_cli.proofs.OneOverlap.{IsFaultOutcome, one_fault_outcome, no_fault_outcome}
 use Rattle.qn_cli.proofs.SameSteps.{same_width}
 

@@ -1,5 +1,5 @@
 -- A network comes to one outcome at most.
-use Rattle.std.proofs.Common.{◌≡◌, ℕ, List, Option, None, Some, refl, sym, ap, ◌∙◌}
+use Rattle.std.proofs.Common.{◌≡◌, ℕ, List, None, sym, ap, ◌∙◌}
 use Rattle.qn_net.specs.Passing.{StepPlace}
 use Rattle.qn_net.specs.NetworkValues.{NetworkValue, passing_place}
 use Rattle.qn_plan.specs.Planned.{first_wide}

@@ -1,5 +1,5 @@
 -- An overlap comes to one outcome at most.
-use Rattle.std.proofs.Common.{◌≡◌, ◌⊎◌, inl, inr, ℕ, List, refl, sym, ap, subst}
+use Rattle.std.proofs.Common.{◌≡◌, ◌⊎◌, inl, inr, refl, ap, subst}
 use Rattle.qn_net.specs.NetworkValues.{NetworkValue}
 use Rattle.qn_mps.specs.SameNetworks.{IsSameNetwork, SameOverlapLaw}
 use Rattle.qn_parts.specs.declared.fault.Fault.{Fault}

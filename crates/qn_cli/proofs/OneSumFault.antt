@@ -1,13 +1,13 @@
 -- The first fault of the terms of an operator sum is one, and an operator sum has none.
-use Rattle.std.proofs.Common.{◌≡◌, ◌≢◌, ◌≤◌, ◌<◌, ℕ, zero, suc, List, length, refl, sym, ◌∙◌, ap, subst, ◌⊎◌, inl, inr, arith}
+use Rattle.std.proofs.Common.{◌≡◌, ◌≤◌, ◌<◌, ℕ, zero, suc, List, length, refl, sym, ◌∙◌, ap, subst, ◌⊎◌, inl, inr, arith}
 use Rattle.std.proofs.lemmas.Bool.{cases_lt}
 use Rattle.qn_charge.specs.declared.factor.Factor.{Factor}
-use Rattle.qn_charge.specs.Firsts.{IsFirst, HasNone}
+use Rattle.qn_charge.specs.Firsts.{IsFirst}
 use Rattle.qn_sites.specs.Sites.{SiteValue}
 use Rattle.qn_opsum.specs.declared.fault.SumFault.{SumFault}
 use Rattle.qn_opsum.specs.declared.fault.SumFault.TheVariants.{TermCount, SiteRange, UnknownOp, MixedFlux, Memory}
 use Rattle.qn_opsum.specs.Sums.{SumValue, TermValue, term_at}
-use Rattle.qn_opsum.specs.Refusals.{BadSite, BadName, IsGood, IsTermFault, IsFirstTermFault, BadCount, AllGood, OtherCharge, IsSumFault, IsSum}
+use Rattle.qn_opsum.specs.Refusals.{BadSite, BadName, IsGood, IsTermFault, IsFirstTermFault, AllGood, OtherCharge, IsSumFault, IsSum}
 
 -- the first place is one
 pub first_once : (P : ℕ → Type 0) (i j : ℕ) → IsFirst P i → IsFirst P j → i ≡ j

@@ -1,16 +1,13 @@
 -- A network has one text.
-use Rattle.std.proofs.Common.{◌≡◌, ℕ, zero, suc, ℤ, None, List, [], ◌∷◌, map, filter, refl, sym, ◌∙◌, ap, subst}
+use Rattle.std.proofs.Common.{◌≡◌, ℕ, suc, ℤ, None, List, [], ◌∷◌, map, filter, refl, sym, ◌∙◌, ap, subst}
 use Rattle.std.specs.List.{All}
 use Rattle.std.proofs.lemmas.List.Elements.{All-head, All-tail}
 use Rattle.serde_json.specs.Data.{Data}
-use Rattle.qn_index.specs.Places.{IsValues}
 use Rattle.qn_index.specs.Tuples.{admitted}
 use Rattle.qn_index.specs.Legs.{LegValue}
 use Rattle.qn_value.specs.Tensors.{TensorValue, BlockValue, entry_of}
 use Rattle.qn_value.specs.Magnitudes.{all_blocks}
 use Rattle.qn_block.specs.Blocked.{BlockedValue, IsBlocked, tensor_of, is_filled}
-use Rattle.qn_block.specs.Combiners.{CombinerValue}
-use Rattle.qn_net.specs.Groups.{Role}
 use Rattle.qn_net.specs.Groups.Role.{tensor, fuse_table, split_table}
 use Rattle.qn_net.specs.Refusals.{network_of}
 use Rattle.qn_braket.specs.Chains.{with_labels}
@@ -20,7 +17,7 @@ use Rattle.serde_json.specs.Data.{object, member, no_members}
 use Rattle.std.specs.Prelude.{codes}
 use Rattle.qn_net.specs.Members.{MemberValue, LabelledMember, placed_member, role_of, member_tensor, IsHeld}
 use Rattle.qn_net.specs.Members.MemberValue.{own, fuse, split}
-use Rattle.qn_net.specs.NetworkValues.{NetworkValue, PlacedMember}
+use Rattle.qn_net.specs.NetworkValues.{PlacedMember}
 use Rattle.qn_parts.specs.Texts.{line_of}
 use Rattle.qn_doc.specs.NetworkTexts.{own_data, labelled_data, labels_data, member_data, network_data, IsTextOf}
 use Rattle.qn_cli.proofs.Automata.{told}

@@ -1,5 +1,5 @@
 -- The text of the network of the chain that was built is that of the automaton.
-use Rattle.std.proofs.Common.{◌≡◌, ◌-◌, ℕ, None, List, length, refl, sym, ◌∙◌, ap, subst}
+use Rattle.std.proofs.Common.{◌≡◌, ◌-◌, ℕ, None, List, length, ◌∙◌, ap, subst}
 use Rattle.std.specs.List.{All}
 use Rattle.qn_charge.specs.declared.factor.Factor.{Factor}
 use Rattle.qn_block.specs.Blocked.{BlockedValue, IsBlocked}
@@ -9,13 +9,12 @@ use Rattle.qn_braket.specs.ChainLabels.{operator_labels, own_upper, own_lower, o
 use Rattle.qn_mps.specs.Chains.{ChainValue, IsHeld}
 use Rattle.qn_mps.specs.Networks.{chain_network, members_of_kind}
 use Rattle.qn_mps.specs.declared.chain.ChainKind.{ChainKind}
-use Rattle.qn_mps.specs.declared.chain.ChainKind.TheVariants.{Operator}
 use Rattle.qn_net.specs.NetworkValues.{NetworkValue}
 use Rattle.qn_net.specs.Refusals.{network_of}
 use Rattle.qn_parts.specs.Texts.{line_of}
 use Rattle.qn_doc.specs.NetworkTexts.{network_data, IsTextOf}
 use Rattle.qn_mpo.specs.Builds.{IsBuilt}
-use Rattle.qn_cli.specs.Operators.{automaton, operator_text}
+use Rattle.qn_cli.specs.Operators.{operator_text}
 use Rattle.qn_cli.proofs.Automata.{tensors_are, chain_blocked}
 use Rattle.qn_cli.proofs.OneText.{text_told}
 

@@ -1,13 +1,11 @@
 -- A command comes to one outcome at most.
-use Rattle.std.proofs.Common.{◌≡◌, ◌≢◌, ◌⊎◌, inl, inr, ℕ, suc, ◌<◌, List, [], ◌∷◌, length, Option, Some, None, true, false, refl, sym, ap, subst, ◌∙◌, arith}
+use Rattle.std.proofs.Common.{◌≡◌, ◌≢◌, ◌⊎◌, inl, inr, ℕ, suc, ◌<◌, List, length, Some, None, true, false, refl, sym, ap, subst, ◌∙◌}
 use Rattle.std.proofs.lemmas.Bool.{lt-ltb}
-use Rattle.std.specs.Option.{IsSomeAnd}
 use Rattle.serde_json.specs.Data.{Data}
 use Rattle.qn_net.specs.declared.fault.NetFault.{NetFault}
 use Rattle.qn_net.specs.declared.fault.NetFault.TheVariants.{Memory as OutOfMemory}
 use Rattle.qn_net.specs.NetworkValues.{NetworkValue, passing_place}
 use Rattle.qn_net.specs.Passing.{StepPlace}
-use Rattle.qn_net.specs.Refusals.{IsNetFault}
 use Rattle.qn_net.proofs.OneFault.{one_fault, no_fault}
 use Rattle.qn_plan.specs.Planned.{planned, first_wide}
 use Rattle.qn_parts.specs.declared.fault.Fault.{Fault}
@@ -15,22 +13,17 @@ use Rattle.qn_parts.specs.Faults.{fault}
 use Rattle.qn_parts.specs.Tree.{tree_of}
 use Rattle.qn_parts.specs.TensorTexts.{tensor_text}
 use Rattle.qn_doc.specs.LabelFaults.{placed}
-use Rattle.qn_doc.specs.Networks.{IsNetworkOf, IsLabelFault, bytes_fault, members_of, order_of}
+use Rattle.qn_doc.specs.Networks.{IsLabelFault, bytes_fault, members_of, order_of}
 use Rattle.qn_texts.specs.PlanTexts.{plan_text}
 use Rattle.qn_words.specs.declared.words.Job.{Job}
 use Rattle.qn_words.specs.declared.words.Job.TheVariants.{Contract, Plan, Mpo, Overlap, Expect, Gen}
 use Rattle.qn_charge.specs.Firsts.{IsFirst, HasNone}
-use Rattle.qn_opsum.specs.declared.fault.SumFault.{SumFault}
-use Rattle.qn_opsum.specs.Sums.{SumValue, charge_of, term_at}
-use Rattle.qn_opsum.specs.Refusals.{IsSumFault as IsTermsFaulty}
+use Rattle.qn_opsum.specs.Sums.{SumValue}
 use Rattle.qn_auto.specs.SumAutomaton.{IsWideAt, PassesAt}
-use Rattle.qn_parts.specs.Documents.{factors_of}
-use Rattle.qn_sumdoc.specs.Sites.{sites_of}
-use Rattle.qn_sumdoc.specs.Terms.{terms_of, IsTermsFault, placed as sum_placed}
-use Rattle.qn_sumdoc.specs.Sums.{IsSumOf, bytes_fault as sum_bytes_fault}
+use Rattle.qn_sumdoc.specs.Sums.{bytes_fault as sum_bytes_fault}
 use Rattle.qn_cli.specs.Outcomes.{Outcome, refused, passed, answered, most_bytes}
-use Rattle.qn_cli.specs.Networks.{IsNetworkIn, IsBytesFault, IsWideStep, IsFirstFault, value_tensor, Contracts, Plans}
-use Rattle.qn_cli.specs.Operators.{IsSumIn, IsSumFaultIn, IsWideSite, IsPassingSite, IsBuildable, operator_text, Writes}
+use Rattle.qn_cli.specs.Networks.{IsNetworkIn, IsBytesFault, IsFirstFault, value_tensor, Contracts, Plans}
+use Rattle.qn_cli.specs.Operators.{IsSumIn, IsSumFaultIn, IsWideSite, IsPassingSite, operator_text, Writes}
 use Rattle.qn_cli.specs.States.{IsStatesFaultIn, SaysStates, SaysStatesAndSum, ComesToOverlap, ComesToExpect}
 use Rattle.qn_cli.specs.Brakets.{expect_text}
 use Rattle.qn_cli.specs.Generated.{IsGenerated, text_for}

@@ -1,6 +1,6 @@
 -- What the network of two states gives, as the outcome of their overlap.
-use Rattle.std.proofs.Common.{◌≡◌, ◌⊎◌, inl, inr, ◌+◌, ◌≤◌, ℕ, List, [], None, Bool, true, false, refl, sym, ◌∙◌, ap, subst}
-use Rattle.std.specs.Prelude.{Option, Some, codes}
+use Rattle.std.proofs.Common.{◌≡◌, inl, inr, ℕ, List, [], None, Bool, false, refl, sym, ◌∙◌, ap}
+use Rattle.std.specs.Prelude.{Option, Some}
 use Rattle.std.specs.Option.{IsSomeAnd}
 use Rattle.serde_json.specs.Data.{Data}
 use Rattle.qn_charge.specs.Charges.{sum_charge, neg_charge}
@@ -9,21 +9,18 @@ use Rattle.qn_plan.specs.Planned.{first_wide, cost_of_plan}
 use Rattle.qn_braket.specs.Chains.{chain_flux, overlap}
 use Rattle.qn_braket.specs.ChainLaws.{network_flux}
 use Rattle.qn_mps.specs.Chains.{ChainValue}
-use Rattle.qn_mps.specs.declared.chain.ChainKind.{ChainKind}
-use Rattle.qn_mps.specs.declared.chain.ChainKind.TheVariants.{State}
 use Rattle.qn_parts.specs.TensorTexts.{tensor_text}
 use Rattle.qn_parts.specs.Tree.{tree_of}
-use Rattle.qn_words.specs.declared.words.Job.{Job}
 use Rattle.qn_words.specs.declared.words.Job.TheVariants.{Overlap}
 use Rattle.qn_sumdoc.specs.StatesValues.{StatesValue}
 use Rattle.qn_sumdoc.specs.States.{AreStatesOf}
 use Rattle.qn_cli.specs.declared.status.Status.{Status}
 use Rattle.qn_cli.specs.declared.status.Status.TheVariants.{Done, Usage, Malformed, Passed, ReadFault, WriteFault, Memory}
 use Rattle.qn_cli.specs.Networks.{value_tensor}
-use Rattle.qn_cli.specs.Brakets.{BraketValue, SaysSuch, IsOverlapOf, IsOverlapText, IsOverlapCost, overlap_flux, overlap_text}
-use Rattle.qn_cli.specs.States.{AreStatesIn, AreTwoStates, SaysStates, braket_of, ComesToOverlap}
+use Rattle.qn_cli.specs.Brakets.{BraketValue, IsOverlapOf, IsOverlapText, overlap_flux}
+use Rattle.qn_cli.specs.States.{AreStatesIn, AreTwoStates, braket_of, ComesToOverlap}
 use Rattle.qn_cli.specs.Outcomes.{answered}
-use Rattle.qn_cli.specs.Jobs.{ComesTo, Multiplies}
+use Rattle.qn_cli.specs.Jobs.{Multiplies}
 use Rattle.qn_cli.specs.Answers.{IsValueRefusal, IsOverlapRefusal, IsStatesRefusal, Refuses, IsWithinPlan, IsWithinOverlap}
 use Rattle.qn_cli.proofs.Scalars.{scalar_is, overlap_closed, overlap_group}
 

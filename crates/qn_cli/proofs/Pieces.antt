@@ -1,11 +1,11 @@
 -- Pieces that are written one after another.
-use Rattle.std.proofs.Common.{◌≡◌, ◌⊎◌, inl, inr, ℕ, suc, ◌+◌, ◌-◌, ◌^◌, ◌<◌, ◌≤◌, List, [], ◌++◌, length, take, drop, get_or, Bor, add-one, drop-cons, Bool, true, false, cond, min, Some, None, ap, ◌∙◌, sym, arith, append_assoc}
+use Rattle.std.proofs.Common.{◌≡◌, ◌⊎◌, inl, inr, ℕ, suc, ◌+◌, ◌<◌, ◌≤◌, List, [], ◌++◌, length, take, drop, get_or, Bor, add-one, drop-cons, Bool, true, Some, None, ap, ◌∙◌, sym, arith, append_assoc}
 use Rattle.std.proofs.Math.Seq.{take-append-add}
 use Rattle.std.proofs.lemmas.List.{take-append-le, take_all}
 use Rattle.std.proofs.lemmas.Bool.{cases_lt}
 use Rattle.std.specs.Prelude.{Option, Result, Ok, Err, IfErr, OnErr}
 use Rattle.std.specs.Io.KnownBytes.{Appends}
-use Rattle.qn_outside.specs.Faults.{Rose, count_after}
+use Rattle.qn_outside.specs.Faults.{Rose}
 use Rattle.qn_cli.specs.Lines.{AppendsFront, joined, numbers_after}
 use Rattle.serde_json.specs.Written.{comma_if}
 use Rattle.std.specs.Prelude.{decimal}

@@ -1,5 +1,5 @@
 -- The value of a network without open legs is a number.
-use Rattle.std.proofs.Common.{◌≡◌, ℕ, zero, suc, ◌+◌, ◌*◌, ◌<◌, ℤ, pos, not, cond, true, false, Bool, count_by, None, List, [], ◌∷◌, ◌++◌, length, map, filter, reverse, refl, sym, ◌∙◌, ap, subst, zero-add, arith}
+use Rattle.std.proofs.Common.{◌≡◌, ℕ, zero, suc, ◌+◌, ◌*◌, ◌<◌, ℤ, pos, not, cond, true, false, Bool, None, List, [], ◌∷◌, ◌++◌, length, map, filter, reverse, refl, sym, ◌∙◌, ap, subst, zero-add, arith}
 use Rattle.std.specs.List.{All}
 use Rattle.std.specs.Prelude.{◌==◌}
 use Rattle.std.proofs.lemmas.List.Elements.{All-head, All-tail, All-cons, All-nil, All-append}

@@ -1,5 +1,5 @@
 -- The network with the automaton's skeleton in the operator's place is too wide at the same step as that with the automaton.
-use Rattle.std.proofs.Common.{◌≡◌, ◌<◌, ℕ, suc, ℤ, None, List, [], ◌∷◌, ◌++◌, length, map, refl, sym, ap, ap₂, subst, ◌∙◌}
+use Rattle.std.proofs.Common.{◌≡◌, ◌<◌, ℕ, suc, ℤ, None, List, [], ◌∷◌, ◌++◌, length, map, refl, sym, ap, ap₂, ◌∙◌}
 use Rattle.std.proofs.lemmas.List.{map-append}
 use Rattle.std.proofs.lemmas.List.FromFn.{fill_by_all}
 use Rattle.qn_sign.specs.Positions.{positions}
@@ -7,10 +7,10 @@ use Rattle.qn_charge.specs.declared.factor.Factor.{Factor}
 use Rattle.qn_value.specs.Labels.{Slot, slots, slots_of, ends}
 use Rattle.qn_block.specs.Blocked.{BlockedValue}
 use Rattle.qn_opsum.specs.Sums.{SumValue}
-use Rattle.qn_auto.specs.SumAutomaton.{IsSkeletonOf, legs_at, flux_at}
+use Rattle.qn_auto.specs.SumAutomaton.{IsSkeletonOf}
 use Rattle.qn_net.specs.Groups.{Member}
 use Rattle.qn_net.specs.Members.{LabelledMember, placed_member, slots_of_members}
-use Rattle.qn_net.specs.NetworkValues.{NetworkValue, PlacedMember, member_of, legs_of}
+use Rattle.qn_net.specs.NetworkValues.{PlacedMember, member_of}
 use Rattle.qn_net.specs.Refusals.{network_of, positives}
 use Rattle.qn_plan.specs.Planned.{first_wide}
 use Rattle.qn_braket.specs.ChainLabels.{state_labels, operator_labels, expect_upper, expect_lower, expect_bra, expect_op, expect_ket}

@@ -1,5 +1,5 @@
 -- What the states and the sum of a seed come to, the job of this seed comes to.
-use Rattle.std.proofs.Common.{◌≡◌, inl, inr, ℕ, List, map, refl, sym, ◌∙◌, ap}
+use Rattle.std.proofs.Common.{◌≡◌, inl, inr, ℕ, List, map, sym, ◌∙◌, ap}
 use Rattle.qn_opsum.specs.Sums.{SumValue}
 use Rattle.qn_sites.specs.Sites.{SiteValue}
 use Rattle.qn_mps.specs.Chains.{ChainValue}
@@ -10,7 +10,7 @@ use Rattle.qn_cli.specs.declared.status.Status.TheVariants.{Done, Usage, Malform
 use Rattle.qn_cli.specs.Outcomes.{answered}
 use Rattle.qn_cli.specs.Brakets.{IsExpectText, pair_of}
 use Rattle.qn_cli.specs.States.{ArePair, IsOnStates}
-use Rattle.qn_cli.specs.Generated.{generated_states, text_for, IsGenerated}
+use Rattle.qn_cli.specs.Generated.{text_for, IsGenerated}
 use Rattle.qn_cli.specs.Jobs.{ComesTo, Multiplies}
 use Rattle.qn_cli.specs.Answers.{IsExpectRefusal, IsWithinExpect, Refuses}
 

@@ -1,6 +1,6 @@
 -- What two states come to: their overlap, and the expectation of an operator sum between them.
 -- Source: Fishman, White and Stoudenmire 2022; Jordan and Wigner for the strings of the sum.
-use Rattle.std.specs.Prelude.{◌≡◌, ◌⊎◌, ◌+◌, ℕ, ℤ, suc, List, [], ◌∷◌, filter, None}
+use Rattle.std.specs.Prelude.{◌≡◌, ◌⊎◌, ◌+◌, ℕ, ℤ, List, [], filter, None}
 use Rattle.qn_gauss.specs.Gaussian.{Gaussian}
 use Rattle.qn_charge.specs.declared.factor.Factor.{Factor}
 use Rattle.qn_charge.specs.Charges.{sum_charge, neg_charge}

@@ -1,5 +1,5 @@
 -- The lines that tell on the error sink how a call ended.
-use Rattle.std.specs.Prelude.{◌≡◌, ◌⊎◌, ℕ, List, [], ◌∷◌, ◌++◌, take, Bool, true, false, Option, codes, decimal}
+use Rattle.std.specs.Prelude.{◌⊎◌, ℕ, List, [], ◌∷◌, ◌++◌, take, Bool, true, false, Option, codes, decimal}
 use Rattle.std.specs.Fmt.{signed_decimal}
 use denote.Bor.{Bor}
 use Rattle.serde_json.specs.Written.{comma_if}

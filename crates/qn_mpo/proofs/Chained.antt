@@ -1,30 +1,23 @@
 -- Tensors with the shapes of the automaton are an operator chain.
-use Rattle.std.proofs.Common.{◌≡◌, ◌≢◌, ℕ, ℤ, zero, suc, ◌+◌, ◌-◌, ◌<◌, ◌≤◌, ◌^◌, ◌==◌, Bool, true, false, cond, if◌then◌else◌, None, List, [], ◌∷◌, ◌++◌, length, get_or, map, take, drop, refl, sym, ◌∙◌, ap, subst, arith}
+use Rattle.std.proofs.Common.{◌≡◌, ℕ, ◌<◌, ◌≤◌, ◌^◌, Bool, true, false, if◌then◌else◌, List, length, get_or, sym, ◌∙◌, ap, subst, arith}
 use Rattle.std.specs.List.{All}
-use Rattle.std.proofs.lemmas.Bool.Decides.{nat_tests}
 use Rattle.std.proofs.lemmas.List.{get_or_default, get_or-map, length-map}
 use Rattle.qn_charge.specs.declared.factor.Factor as charge
 use Rattle.qn_charge.specs.Charges.{IsWithin, zero_charge}
 use Rattle.qn_charge.specs.Laws.{within_more, within_zero}
-use Rattle.qn_index.specs.declared.leg.Dir.TheVariants.{In, Out}
-use Rattle.qn_index.specs.Legs.{LegValue, Meets, flipped}
+use Rattle.qn_index.specs.declared.leg.Dir.TheVariants.{Out}
+use Rattle.qn_index.specs.Legs.{LegValue}
 use Rattle.qn_index.specs.Places.{IsValues}
 use Rattle.qn_block.specs.Blocked.{BlockedValue}
-use Rattle.qn_net.specs.Members.{no_leg}
 use Rattle.qn_sites.specs.Sites.{SiteValue}
-use Rattle.qn_opsum.specs.Sums.{SumValue, no_site, site_at}
+use Rattle.qn_opsum.specs.Sums.{SumValue, no_site}
 use Rattle.qn_opsum.specs.Refusals.{IsSum}
-use Rattle.qn_auto.specs.SumAutomaton.{HasShapeAt, IsAutomatonOf, flux_at, is_last, legs_at, link_leg, no_tensor, tensor_at}
+use Rattle.qn_auto.specs.SumAutomaton.{HasShapeAt, IsAutomatonOf, flux_at, is_last, no_tensor, tensor_at}
 use Rattle.qn_auto.proofs.Terms.{flux_fits}
-use Rattle.qn_braket.specs.Chains.{AreLegsOf, IsChain, IsOperatorChain, element, leg_at, legs_left, legs_right, operator_legs}
+use Rattle.qn_braket.specs.Chains.{IsOperatorChain, element}
 use Rattle.qn_paths.specs.Sums.{site_legs, sum_element}
 use Rattle.qn_paths.proofs.SumElements.{sum_elements}
-use Rattle.qn_mps.specs.Chains.{ChainValue, IsHeld, legs_of}
-use Rattle.qn_mps.specs.Refusals.{HasLegsAt, IsChainFault}
-use Rattle.qn_mps.specs.declared.chain.ChainKind.{ChainKind}
-use Rattle.qn_mps.specs.declared.chain.ChainKind.TheVariants.{Operator}
-use Rattle.qn_mps.specs.declared.fault.ChainFault.{ChainFault}
-use Rattle.qn_mps.specs.declared.fault.ChainFault.TheVariants.{ChainShape, LinkClash, Memory}
+use Rattle.qn_mps.specs.Chains.{ChainValue}
 use Rattle.qn_mpo.specs.Builds.{IsOnSites}
 
 -- the shapes of all tensors

@@ -1,9 +1,9 @@
 -- The total charge of operators, operator by operator.
-use Rattle.std.proofs.Common.{◌≡◌, ℕ, ℤ, zero, suc, ◌+◌, ◌*◌, ◌≤◌, ◌<◌, ◌^◌, List, [], ◌∷◌, length, get_or, drop, arith, refl, ap, ◌∙◌, sym, subst}
+use Rattle.std.proofs.Common.{◌≡◌, ℕ, ℤ, zero, suc, ◌+◌, ◌*◌, ◌≤◌, ◌<◌, ◌^◌, List, [], ◌∷◌, length, get_or, drop, arith, ap, ◌∙◌, sym, subst}
 use Rattle.std.proofs.Math.ListN.{drop_of_length-le}
 use Rattle.std.proofs.lemmas.List.{get_or_default}
 use Rattle.qn_charge.specs.declared.factor.Factor as charge
-use Rattle.qn_charge.specs.Charges.{IsCanonical, IsGroup, IsWithin, sum_charge, zero_charge}
+use Rattle.qn_charge.specs.Charges.{IsCanonical, IsWithin, sum_charge, zero_charge}
 use Rattle.qn_charge.specs.Laws.{associative_charge, canonical_sum, canonical_zero, commutative_charge, within_more, within_sum, within_zero, zero_is_neutral}
 use Rattle.qn_opsum.specs.Strings.{Factor}
 use Rattle.qn_opsum.specs.Sums.{SumValue, no_site, site_at}

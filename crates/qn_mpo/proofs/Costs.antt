@@ -1,7 +1,6 @@
 -- How often a build multiplies: over the states left of a site, and over the sites.
-use Rattle.std.proofs.Common.{◌≡◌, ℕ, zero, suc, ◌+◌, ◌*◌, ◌<◌, ◌≤◌, ◌^◌, ◌==◌, ◌⊎◌, inl, inr, Bool, true, false, ◌||◌, cond, List, [], ◌∷◌, length, refl, sym, ◌∙◌, ap, ap₂, subst, arith}
+use Rattle.std.proofs.Common.{◌≡◌, ℕ, zero, suc, ◌+◌, ◌*◌, ◌<◌, ◌≤◌, ◌^◌, ◌==◌, Bool, true, false, ◌||◌, cond, List, [], ◌∷◌, length, refl, sym, ◌∙◌, ap, ap₂, subst, arith}
 use Rattle.std.specs.Prelude.{nat_lt}
-use Rattle.std.proofs.lemmas.Bool.{cases_lt}
 use Rattle.std.proofs.lemmas.Bool.Decides.{nat_tests}
 use Rattle.qn_sign.specs.Sign.{is_in}
 use Rattle.qn_value.specs.Magnitudes.{total_below}
@@ -9,7 +8,7 @@ use Rattle.qn_opsum.specs.Strings.{Factor, Sites}
 use Rattle.qn_opsum.specs.Sums.{SumValue}
 use Rattle.qn_auto.specs.Automaton.{Stage, Term, after, begin, enter, next, same_stage, stage, stages, to_come}
 use Rattle.qn_auto.specs.Automaton.Stage.{not_begun, rest, done}
-use Rattle.qn_auto.specs.Building.{cubes, made, total_over}
+use Rattle.qn_auto.specs.Building.{cubes, total_over}
 use Rattle.qn_auto.specs.Flux.{ops_at}
 use Rattle.qn_auto.specs.SumAutomaton.{made_of, sites_in, state_lower, terms_in}
 use Rattle.qn_auto.proofs.Stages.{in-stages}

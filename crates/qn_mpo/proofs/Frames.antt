@@ -1,28 +1,20 @@
 -- The links and the tensors without blocks, site by site.
-use Rattle.std.proofs.Common.{◌≡◌, ℕ, ℤ, zero, suc, ◌+◌, ◌-◌, ◌<◌, ◌≤◌, ◌^◌, ◌⊎◌, inl, inr, Bool, true, false, if◌then◌else◌, List, [], ◌∷◌, ◌++◌, length, get_or, refl, sym, ◌∙◌, ap, subst, arith}
+use Rattle.std.proofs.Common.{◌≡◌, ℕ, ℤ, zero, suc, ◌+◌, ◌<◌, ◌≤◌, ◌⊎◌, inl, inr, Bool, true, false, if◌then◌else◌, List, [], ◌∷◌, ◌++◌, length, get_or, sym, ◌∙◌, ap, subst, arith}
 use Rattle.std.specs.List.{All}
 use Rattle.std.proofs.lemmas.Bool.{cases_lt}
-use Rattle.std.proofs.lemmas.List.{append-nil, get_or_append_left, get_or_push, length_push}
+use Rattle.std.proofs.lemmas.List.{get_or_append_left, get_or_push, length_push}
 use Rattle.qn_charge.specs.declared.factor.Factor as charge
-use Rattle.qn_index.specs.Extents.{IsTooWide, IsWithinLimits}
+use Rattle.qn_index.specs.Extents.{IsTooWide}
 use Rattle.qn_index.specs.Legs.{IsLegOf, IsOf, LegValue, SectorValue, flipped}
 use Rattle.qn_index.specs.Tuples.{IsFlux}
-use Rattle.qn_value.specs.Tensors.{BlockValue}
-use Rattle.qn_block.specs.Blocked.{BlockedValue, IsBlocked}
-use Rattle.qn_block.specs.Refusals.{IsBlockFault}
-use Rattle.qn_block.specs.declared.fault.BlockFault.{BlockFault}
-use Rattle.qn_block.specs.declared.fault.BlockFault.TheVariants as block
-use Rattle.qn_sites.specs.Sites.{SiteValue}
+use Rattle.qn_block.specs.Blocked.{BlockedValue}
 use Rattle.qn_opsum.specs.Sums.{SumValue, no_site, site_at}
 use Rattle.qn_opsum.specs.Refusals.{IsSum}
 use Rattle.qn_opsum.proofs.Lookups.{one_more}
-use Rattle.qn_auto.specs.SumAutomaton.{HasShapeAt, IsWideAt, flux_at, is_last, left_legs, legs_at, link_leg, no_tensor, right_legs, tensor_at}
+use Rattle.qn_auto.specs.SumAutomaton.{HasShapeAt, IsWideAt, flux_at, is_last, left_legs, legs_at, link_leg, no_tensor, right_legs}
 use Rattle.qn_auto.proofs.Ordered.{all_from}
 use Rattle.qn_auto.proofs.Stages.{AllOf}
-use Rattle.qn_mpo.specs.declared.fault.BuildFault.{BuildFault}
-use Rattle.qn_mpo.specs.declared.fault.BuildFault.TheVariants.{Wide, Passed, Memory}
-use Rattle.qn_mpo.specs.Builds.{IsSkeletonFault}
-use Rattle.qn_mpo.specs.Links.{AreEmpty, AreLinks, IsLinkFault, IsShapeStop, LinkValue, link_value}
+use Rattle.qn_mpo.specs.Links.{AreEmpty, AreLinks, LinkValue, link_value}
 use Rattle.qn_mpo.proofs.Links.{Fits, link_charges}
 
 -- ---- one more element

@@ -1,5 +1,5 @@
 -- The operators of a sum as rules.
-use Rattle.std.proofs.Common.{◌≡◌, ℕ, ◌<◌, List, length, get_or, map, refl, sym, ◌∙◌, ap, subst, arith}
+use Rattle.std.proofs.Common.{◌≡◌, ℕ, ◌<◌, List, length, get_or, map, sym, ◌∙◌, ap, subst, arith}
 use Rattle.std.proofs.lemmas.List.{get_or-map, length-map}
 use Rattle.qn_rule.specs.Rules.{RuleValue}
 use Rattle.qn_sites.specs.Operators.{OpValue, op_legs}

@@ -1,20 +1,11 @@
 -- The tensors of a build, site by site.
-use Rattle.std.proofs.Common.{◌≡◌, ℕ, zero, suc, ◌+◌, ◌-◌, ◌<◌, ◌≤◌, List, [], ◌∷◌, ◌++◌, length, get_or, map, refl, sym, ◌∙◌, ap, subst, arith}
-use Rattle.std.proofs.lemmas.List.{get_or_default, length_push}
+use Rattle.std.proofs.Common.{◌≡◌, ℕ, ◌+◌, ◌<◌, ◌≤◌, List, [], ◌∷◌, ◌++◌, length, sym, ◌∙◌, ap, subst, arith}
+use Rattle.std.proofs.lemmas.List.{length_push}
 use Rattle.qn_block.specs.Blocked.{BlockedValue}
 use Rattle.qn_charge.specs.Firsts.{HasNone}
-use Rattle.qn_sites.specs.Sites.{SiteValue}
-use Rattle.qn_opsum.specs.Sums.{SumValue, no_site, site_at}
+use Rattle.qn_opsum.specs.Sums.{SumValue}
 use Rattle.qn_opsum.proofs.Lookups.{one_more}
-use Rattle.qn_auto.specs.Automaton.{Stage}
-use Rattle.qn_auto.specs.Automaton.Stage.{not_begun}
-use Rattle.qn_auto.specs.SumAutomaton.{HasShapeAt, IsAutomatonOf, IsTensorAt, IsSkeletonOf, IsWideAt, PassesAt, no_tensor, tensor_at}
-use Rattle.qn_mpo.specs.declared.fault.BuildFault.{BuildFault}
-use Rattle.qn_mpo.specs.declared.fault.BuildFault.TheVariants.{Wide, Passed, Memory}
-use Rattle.qn_mpo.specs.Builds.{IsBuildFault, IsPassing, IsSiteStop, IsSkeletonFault}
-use Rattle.qn_mpo.specs.Links.{AreEmpty, AreLinks, LinkValue, link_value}
-use Rattle.qn_mpo.specs.Rows.{PassesHere, left_stages}
-use Rattle.qn_mpo.specs.States.{StateValue, with_charge}
+use Rattle.qn_auto.specs.SumAutomaton.{IsAutomatonOf, IsTensorAt, PassesAt, no_tensor, tensor_at}
 use Rattle.qn_mpo.proofs.Frames.{push_at}
 
 -- the tensors of the first n sites, none of which passes

@@ -1,5 +1,5 @@
 -- Links as the program holds them.
-use Rattle.std.specs.Prelude.{◌≡◌, ◌<◌, ℕ, zero, suc, List, [], length, map, slice_index_or}
+use Rattle.std.specs.Prelude.{◌≡◌, ◌<◌, ℕ, suc, List, [], length, map, slice_index_or}
 use Rattle.qn_index.specs.Extents.{IsTooWide}
 use Rattle.qn_index.specs.Legs.{LegValue}
 use Rattle.qn_opsum.specs.Sums.{SumValue}

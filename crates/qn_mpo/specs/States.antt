@@ -1,5 +1,5 @@
 -- The states of a link as the program holds them.
-use Rattle.std.specs.Prelude.{ℤ, Bool, cond, List, [], ◌∷◌, map}
+use Rattle.std.specs.Prelude.{ℤ, Bool, cond, List, map}
 use Rattle.std.specs.declared.cmp.Ordering.{Ordering}
 use Rattle.std.specs.declared.cmp.Ordering.TheVariants.{Less, Equal, Greater}
 use Rattle.qn_opsum.specs.Strings.{Factor}

@@ -1,4 +1,3 @@
-use Rattle.std.proofs.Common.{◌≡◌}
 use Rattle.qn_cli.proofs.command.answer.Goals as goal
 
 pub returns-clause-tells : goal.returns-clause-tells
