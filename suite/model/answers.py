@@ -62,6 +62,8 @@ def first_place(command, group, document):
     """The first place at which a sum of magnitudes passes the limit, or None; for contract and overlap alone."""
     if command not in ('contract', 'overlap') or not has_long_numbers(document):
         return None
+    if group.code.makes('wraps-at-64-bits'):
+        return None
     if command == 'contract':
         members, order, _ = read_network(group, document)
         tables = [member.get('combine', {}).get('mode') for member in document['tensors']]
