@@ -9,7 +9,7 @@ from judging import MISTAKES, Verdict, agree, load_cases, load_table, mistaken, 
 
 
 def answers_of(case):
-    """The model's answer, and those of the codes with one mistake each. A mistake that plays no part changes nothing."""
+    """The model's answer, and those of codes with one mistake each; one that plays no part changes nothing."""
     right, asked = mistaken(case, ())
     return right, {one: mistaken(case, [one])[0] if one in asked else right for one in MISTAKES}
 

@@ -19,10 +19,11 @@ GROUPS = [[U], [U], [U], [B], [], [zn(2, True)], [zn(2, True)], [zn(4, True)], [
 
 
 class Random:
-    """Draws documents by the random numbers of `draw`, a random.Random."""
+    """Draws documents by the random numbers of `draw`, a random.Random; where wanted some labels are twisted."""
 
-    def __init__(self, draw):
+    def __init__(self, draw, twist=False):
         self.draw = draw
+        self.twist = twist
 
     def part(self, factor, spread):
         return self.draw.randrange(factor['n']) if factor['kind'] == 'zn' else self.draw.randint(-spread, spread)
@@ -31,7 +32,8 @@ class Random:
         return [self.part(f, spread) for f in factors]
 
     def sectors(self, factors, most):
-        return [[self.charge(factors), self.draw.choice([1, 1, 1, 2])] for _ in range(self.draw.randint(1, most))]
+        return [[self.charge(factors), self.draw.choice([1, 1, 1, 2])]
+                for _ in range(self.draw.randint(1, most))]
 
     def number(self, long_ones):
         size = self.draw.choice([1, 3, 9, 2 ** 31, 2 ** 62, 2 ** 63]) if long_ones else 4
@@ -41,13 +43,14 @@ class Random:
             return re
         return [str(re), str(im)] if shape < 0.7 or size > 2 ** 61 else [re, im]
 
-    def tensor(self, group, legs, long_ones=False, flux=None, full=0.7):
+    def tensor(self, group, legs, long_ones=False, flux=None, full=0.85):
         """A tensor on these legs, whose flux is that of some tuple where none is given."""
         made = [read_leg(leg) for leg in legs]
         nets = {sectors: group.net(made, [leg.values_of(s)[0] for leg, s in zip(made, sectors)])
                 for sectors in product(*[range(len(leg.sectors)) for leg in made])}
         if flux is None:
-            flux = self.draw.choice(sorted(nets.values()))
+            odd = [net for net in nets.values() if group.is_odd(net)]
+            flux = self.draw.choice(sorted(odd if odd and self.draw.random() < 0.5 else nets.values()))
         blocks = []
         for sectors in sorted(nets):
             if nets[sectors] == tuple(flux) and self.draw.random() < full:
@@ -63,10 +66,10 @@ class Random:
         long_ones = self.draw.random() < 0.15
         members, owners = [], []        # for each member its legs; for each line its ends
         free, size = [], 1
-        for k in range(self.draw.choice([1, 2, 2, 3, 3, 4])):
+        for k in range(self.draw.choice([1, 2, 3, 3, 4, 4, 5])):
             legs, ends = [], []
-            for _ in range(self.draw.choice([0, 1, 2, 2, 3, 3, 4])):
-                if free and self.draw.random() < 0.65:
+            for _ in range(self.draw.choice([0, 1, 1, 2, 2, 2, 3, 4])):
+                if free and self.draw.random() < 0.7:
                     place, leg = free.pop(self.draw.randrange(len(free)))
                     legs.append(self.turned(leg))
                     owners.append([place, (k, len(legs) - 1)])
@@ -74,7 +77,7 @@ class Random:
                 elif size < 300:
                     leg = {'dir': self.draw.choice(['out', 'in']), 'sectors': self.sectors(factors, 3)}
                     size *= sum(d for _, d in leg['sectors'])
-                    if size < 300 and self.draw.random() < 0.15:
+                    if size < 300 and self.draw.random() < 0.2:
                         owners.append([(k, len(legs)), (k, len(legs) + 1)])
                         ends += [len(legs), len(legs) + 1]
                         legs += [leg, self.turned(leg)]
@@ -85,7 +88,7 @@ class Random:
             values = 1
             for leg in legs:
                 values *= sum(d for _, d in leg['sectors'])
-            if legs and values < 40 and self.draw.random() < 0.25:
+            if legs and values < 40 and self.draw.random() < 0.3:
                 member, shown = self.combined(group, [legs[i] for i in order])
                 places = dict(zip(order, shown[1]))
                 fused = shown[0]
@@ -106,11 +109,14 @@ class Random:
             labels[place] = -1 - i
         for k, member in enumerate(members):
             member['labels'] = [labels[at] for at in sorted(p for p in labels if p[0] == k)]
+        self.draw.shuffle(members)
         document = {'group': factors, 'tensors': members}
         if self.draw.random() < 0.5:
             order = sorted(names)
             self.draw.shuffle(order)
             document['order'] = order
+        if self.twist:
+            document['twist'] = sorted(name for name in names if self.draw.random() < 0.5)
         return document
 
     def combined(self, group, legs):

@@ -21,8 +21,9 @@ MISTAKES = {
     'conjugate-charge-kept': 'the charge of a conjugate is not negated',
     # operators
     'no-strings': 'odd operators have no Jordan-Wigner string',
-    'strings-on-the-right': "the string of an operator covers the sites after its own, not those before",
-    'strings-with-the-site': "the string of an operator covers the operator's own site too",
+    'strings-on-the-right': "the string of an operator covers the sites after its own, not those before it",
+    'strings-with-the-site': "the string of an operator covers its own site too, as it is before the operator",
+    'strings-with-the-site-after': "the string of an operator covers its own site too, as it is after the operator",
     'operators-left-to-right': 'the operators of a term act from left to right',
     'electron-down-first': 'the doubly occupied site is Cdagdn Cdagup applied to the empty one',
     'tables-transposed': "the rows and columns of an own operator's table are exchanged",

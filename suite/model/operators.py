@@ -84,19 +84,22 @@ class Sum:
         charge, entries = self.sites[site].operators[name]
         result = {}
         for state, amplitude in vector.items():
-            negative = self.group.is_odd(charge) and self.string_is_odd(site, state)
             for (row, column), entry in entries.items():
                 if state[site] == column:
                     new = state[:site] + (row,) + state[site + 1:]
+                    negative = self.group.is_odd(charge) and self.string_is_odd(site, state, new)
                     term = entry * amplitude
                     result[new] = result.get(new, ZERO) + (-term if negative else term)
         return result
 
-    def string_is_odd(self, site, state):
+    def string_is_odd(self, site, state, new):
         code = self.group.code
         if code.makes('no-strings'):
             return False
         covered = range(site + 1, len(state)) if code.makes('strings-on-the-right') else range(site)
+        values = [(j, state[j]) for j in covered]
         if code.makes('strings-with-the-site'):
-            covered = list(covered) + [site]
-        return sum(self.group.is_odd(self.sites[j].leg.charges[state[j]]) for j in covered) % 2 == 1
+            values.append((site, state[site]))
+        if code.makes('strings-with-the-site-after'):
+            values.append((site, new[site]))
+        return sum(self.group.is_odd(self.sites[j].leg.charges[value]) for j, value in values) % 2 == 1
