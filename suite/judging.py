@@ -105,19 +105,19 @@ def complex_text(re, im):
 
 
 def run_program(command, name, text, seconds=60):
-    """What a program writes, where its last argument is the name of a command of qntn: the line of its answer, or the
-    line in which it says why there is none. None where it does not support the document. What mpo writes is
-    contracted."""
+    """What a program writes, where its last argument is the name of a command of qntn: the line of its answer, or that
+    in which it says that a sum passes, or a line `no answer: ..`. None where it does not support the document. What mpo
+    writes is contracted."""
     try:
         ran = subprocess.run(command + [name], input=text.encode(), stdout=subprocess.PIPE, stderr=subprocess.PIPE,
                              timeout=seconds)
     except subprocess.TimeoutExpired:
-        return 'no answer within %d seconds' % seconds
+        return 'no answer: it took more than %d seconds' % seconds
     if ran.returncode == UNSUPPORTED:
         return None
     if ran.returncode:
         lines = ran.stderr.decode('utf-8', 'replace').strip().split('\n')
-        return lines[-1] or 'exit status %d' % ran.returncode
+        return lines[-1] if 'passed' in lines[-1] else 'no answer: exit status %d %s' % (ran.returncode, lines[-1])
     out = ran.stdout.decode('utf-8', 'replace')
     return contracted(out) if name == 'mpo' else out[:-1] if out.endswith('\n') else out
 
@@ -127,7 +127,7 @@ def contracted(text):
     try:
         return answer('contract', json.loads(text))
     except (ValueError, KeyError, TypeError, IndexError):
-        return 'no network: ' + text[:60]
+        return 'no answer: not a network: ' + text[:60]
 
 
 class Verdict:
@@ -138,6 +138,8 @@ class Verdict:
         self.unsupported = [case for case in cases if answers[case.key] is None]
         self.differing = [case for case in self.judged if not same(answers[case.key], wanted(case))]
         self.answers = answers
+        self.answered = [case for case in self.judged if not answers[case.key].startswith('no answer')]
+        self.unanswered = [case for case in self.judged if case not in self.answered]
         self.fits = {}          # for each case and each answer in the table: whether the program gave that answer
         for case in self.judged:
             others = [rebuilt(case, each) for each, _ in table.get(case.key, [])]
@@ -150,7 +152,7 @@ class Verdict:
 
     def explanations(self, cases=None):
         """The mistakes that explain all answers to the cases; where none does, the pairs of mistakes."""
-        cases = self.judged if cases is None else cases
+        cases = self.answered if cases is None else cases
         for size in (1, 2):
             found = [h for h in HYPOTHESES if len(h) == size and self.explains(h, cases) == len(cases)]
             if found:
@@ -159,8 +161,8 @@ class Verdict:
 
     def nearest(self):
         """The mistake or pair that explains most answers, and how many of the differing ones it explains."""
-        best = max(HYPOTHESES, key=lambda h: (self.explains(h, self.judged), -len(h)))
-        return best, self.explains(best, self.differing), self.explains(best, self.judged)
+        best = max(HYPOTHESES, key=lambda h: (self.explains(h, self.answered), -len(h)))
+        return best, self.explains(best, self.differing), self.explains(best, self.answered)
 
 
 def places(rows):

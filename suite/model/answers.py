@@ -7,7 +7,7 @@ from .mistakes import Code
 from .networks import positive_labels, read_network, value
 from .operators import Sum
 from .states import expectation, flux, overlap, overlap_network, read_chain
-from .steps import first_passing, place_of, steps_of
+from .steps import Plan, first_passing, place_of
 from .tensors import ZERO, Gaussian, Group, Tensor
 
 
@@ -60,9 +60,7 @@ def matrix(operators):
 
 def first_place(command, group, document):
     """The first place at which a sum of magnitudes passes the limit, or None; for contract and overlap alone."""
-    if command not in ('contract', 'overlap') or not has_long_numbers(document):
-        return None
-    if group.code.makes('wraps-at-64-bits'):
+    if command not in ('contract', 'overlap') or group.code.makes('wraps-at-64-bits'):
         return None
     if command == 'contract':
         members, order, _ = read_network(group, document)
@@ -71,12 +69,6 @@ def first_place(command, group, document):
         members = overlap_network(group, read_chain(group, document['bra']), read_chain(group, document['ket']))
         order, tables = positive_labels(members), [None] * len(members)
     return first_passing(group, members, order, tables)
-
-
-def has_long_numbers(document):
-    """Whether some number has ten digits or more, without which the sums of small documents cannot pass."""
-    text = json.dumps(document)
-    return any(len(word) >= 10 for word in ''.join(c if c.isdigit() else ' ' for c in text).split())
 
 
 def written(group, tensor):
@@ -108,6 +100,7 @@ def plan(document):
     group = Group(document['group'], Code())
     members, order, _ = read_network(group, document)
     tables = [member.get('combine', {}).get('mode') for member in document['tensors']]
-    steps = steps_of(group, members, order, tables)
-    lines = [{'cost': step.cost, 'kind': step.kind, 'labels': step.labels, 'of': step.of} for step in steps]
+    steps = Plan(group, members, order, tables).steps
+    lines = [{'cost': step.cost, 'kind': step.kind, 'labels': step.labels,
+              'of': [part.members[0] + 1 for part in step.parts]} for step in steps]
     return json.dumps({'cost': sum(step.cost for step in steps), 'steps': lines}, separators=(',', ':'), sort_keys=True)

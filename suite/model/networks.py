@@ -23,6 +23,25 @@ def positive_labels(members):
     return sorted({label for _, labels in members for label in labels if label > 0})
 
 
+def value(group, members, order=None, twist=()):
+    """The value of the network: a tensor whose legs are the open ones, -1, -2, .., and whose flux is the sum of all.
+
+    At each values of the open legs it is the sum, over all values of the positive labels, of the sign times the
+    product of the entries. `order`, in which the labels are contracted, plays a part in two mistakes alone.
+    """
+    joined = joined_order(members, positive_labels(members) if order is None else order)
+    if joined != sorted(joined) and group.code.makes('odd-tensors-move-freely'):
+        members, joined = [members[k] for k in joined], list(range(len(members)))
+    word = Word(group, members, joined)
+    goal, is_negative = word.goal(), word.sign(twist)
+    entries = {}
+    for chosen, term in assignments(members):
+        at = tuple(chosen[label] for label in word.opens)
+        entries[at] = entries.get(at, ZERO) + (-term if is_negative(goal, chosen) else term)
+    flux = group.total([tensor.flux for tensor, _ in members])
+    return Tensor([word.leg(word.ends[label][0]) for label in word.opens], flux, entries)
+
+
 def assignments(members):
     """Each assignment of values to the labels for which no tensor's entry is 0, with the product of the entries."""
     def extend(k, chosen, entries):
@@ -37,59 +56,59 @@ def assignments(members):
     yield from extend(0, {}, ONE)
 
 
-def value(group, members, order=None, twist=()):
-    """The value of the network: a tensor whose legs are the open ones, -1, -2, .., and whose flux is the sum of all.
+class Word:
+    """The list of all legs of a network, tensor by tensor. `ends` has the places at which each label stands."""
 
-    The word is the list of all legs, tensor by tensor. The goal has for each positive label, ascending, its incoming
-    end and then its outgoing end, and after these the open legs. The sign of an assignment is minus one to the number
-    of pairs of odd legs that stand in the goal in the reverse of their order in the word, and of odd twisted labels.
-    """
-    code = group.code
-    positive = positive_labels(members)
-    joined = joined_order(members, positive if order is None else order)
-    moved = joined != sorted(joined)
-    if moved and code.makes('odd-tensors-move-freely'):
-        members, joined = [members[k] for k in joined], list(range(len(members)))
-    word = [(k, label, tensor.legs[i]) for k, (tensor, labels) in enumerate(members) for i, label in enumerate(labels)]
-    ends = {}
-    for place, (_, label, _) in enumerate(word):
-        ends.setdefault(label, []).append(place)
-    opens = sorted((label for label in ends if label < 0), reverse=True)
+    def __init__(self, group, members, joined):
+        self.group, self.members, self.joined = group, members, joined
+        self.places = [(k, i) for k, (_, labels) in enumerate(members) for i in range(len(labels))]
+        self.labels = [label for _, labels in members for label in labels]
+        self.ends = {label: [place for place, each in enumerate(self.labels) if each == label] for label in self.labels}
+        self.opens = sorted((label for label in self.ends if label < 0), reverse=True)
+        self.positive = positive_labels(members)
 
-    goal = []
-    for label in positive:
-        first, second = ends[label]
-        if word[first][2].out and not code.makes('no-sign-out-before-in'):
-            first, second = second, first
-        goal += [first, second]
-    open_goal = list(opens)
-    if len(opens) > 1 and code.makes('open-legs-move-freely'):
-        open_goal.sort(key=lambda label: (joined.index(word[ends[label][0]][0]), ends[label][0]))
-    goal += [ends[label][0] for label in open_goal]
+    def leg(self, place):
+        k, i = self.places[place]
+        return self.members[k][0].legs[i]
 
-    signs_left_out = code.makes('no-exchange-signs')
-    by_tensors = code.makes('sign-by-tensor-parity')
-    traced = [label for label in positive if word[ends[label][0]][0] == word[ends[label][1]][0]
-              and not word[ends[label][0]][2].out]
-    extra = traced if traced and code.makes('supertrace-for-trace') else []
-    twisted = [] if not twist or code.makes('twist-passed-over') else list(twist)
+    def goal(self):
+        """For each positive label, ascending, its incoming and then its outgoing end; after these the open legs."""
+        code, goal = self.group.code, []
+        for label in self.positive:
+            first, second = self.ends[label]
+            if self.leg(first).out and not code.makes('no-sign-out-before-in'):
+                first, second = second, first
+            goal += [first, second]
+        opens = [self.ends[label][0] for label in self.opens]
+        if len(opens) > 1 and code.makes('open-legs-move-freely'):
+            opens.sort(key=lambda place: (self.joined.index(self.places[place][0]), place))
+        return goal + opens
 
-    def is_odd(place, chosen):
-        k, label, leg = word[place]
-        return group.is_odd(members[k][0].flux if by_tensors else leg.charges[chosen[label]])
+    def sign(self, twist):
+        """The test whether an assignment counts negatively: whether there is an odd number of pairs of odd legs that
+        stand in the goal in the reverse of their order in the word, and of odd twisted labels."""
+        code = self.group.code
+        unsigned, by_tensors = code.makes('no-exchange-signs'), code.makes('sign-by-tensor-parity')
+        twisted = [] if twist and code.makes('twist-passed-over') else list(twist)
+        traces = [label for label in self.positive if self.is_trace(*self.ends[label])]
+        if traces and code.makes('supertrace-for-trace'):
+            twisted += traces
 
-    def is_negative(chosen):
-        odd = [place for place in goal if is_odd(place, chosen)]
-        reversed_pairs = sum(earlier > later for earlier, later in combinations(odd, 2))
-        odd_labels = sum(group.is_odd(word[ends[label][0]][2].charges[chosen[label]]) for label in twisted + extra)
-        return (reversed_pairs + odd_labels) % 2 == 1 and not signs_left_out
+        def is_odd(place, chosen):
+            flux = self.members[self.places[place][0]][0].flux
+            return self.group.is_odd(flux if by_tensors else self.leg(place).charges[chosen[self.labels[place]]])
 
-    entries = {}
-    for chosen, term in assignments(members):
-        at = tuple(chosen[label] for label in opens)
-        entries[at] = entries.get(at, ZERO) + (-term if is_negative(chosen) else term)
-    flux = group.total([tensor.flux for tensor, _ in members])
-    return Tensor([word[ends[label][0]][2] for label in opens], flux, entries)
+        def is_negative(goal, chosen):
+            odd = [place for place in goal if is_odd(place, chosen)]
+            reversed_pairs = sum(earlier > later for earlier, later in combinations(odd, 2))
+            odd_labels = sum(self.group.is_odd(self.leg(self.ends[label][0]).charges[chosen[label]])
+                             for label in twisted)
+            return (reversed_pairs + odd_labels) % 2 == 1 and not unsigned
+        return is_negative
+
+    def is_trace(self, first, second):
+        """Whether both ends stand on one tensor, the incoming one first."""
+        return self.places[first][0] == self.places[second][0] and not self.leg(first).out
 
 
 def joined_order(members, order):

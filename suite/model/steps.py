@@ -1,129 +1,145 @@
 """The steps of a plan, their costs, and where a sum of magnitudes is above the limit (docs/FORMAT.md, sections 5, 11).
 
-A group of members that steps have brought together is known by its members, its open legs in order (each a member's
-number and a place among its legs) and the labels summed so far. What it is worth is the value of its members alone.
+A part is what steps have made of some members: its members, its legs in order (each a place: a member's number and
+a number among its legs), the labels summed so far, and, where it is a combiner that no step has touched, its table.
+What a part is worth is, up to a sign, the value of its members alone.
 """
 
 from collections import namedtuple
 from itertools import product
 
-from .networks import positive_labels, value
+from .networks import value
 
 LIMIT = 2 ** 127 - 1
 
 Part = namedtuple('Part', 'members legs summed table')
-Step = namedtuple('Step', 'kind labels of parts result cost')
+Step = namedtuple('Step', 'kind labels parts result cost')
 
 
-def steps_of(group, members, order, tables):
+class Plan:
     """The steps of a network. `tables` tells for each member whether it is a 'fuse' or a 'split' table, or None."""
-    def label(place):
-        return members[place[0]][1][place[1]]
 
-    def leg(place):
-        return members[place[0]][0].legs[place[1]]
+    def __init__(self, group, members, order, tables):
+        self.group, self.members = group, members
+        self.parts = [Part([k], [(k, i) for i in range(len(labels))], [], table)
+                      for k, ((_, labels), table) in enumerate(zip(members, tables))]
+        self.steps = []
+        for label in order:
+            meeting = [part for part in self.parts if label in self.labels_of(part)]
+            if meeting:                         # none where the label was summed with another one
+                self.take(meeting)
+        while len(self.parts) > 1:
+            self.take(self.parts[:2])
 
-    def is_combiner_for(part, labels):
-        if part.table is None:
-            return False
-        turned = part.legs[1:] if part.table == 'fuse' else part.legs[-1:]
-        return bool(labels) and sorted(labels) == sorted(label(place) for place in turned)
+    def label(self, place):
+        return self.members[place[0]][1][place[1]]
 
-    def cost(first, second, labels):
-        shared = {}
-        for sizes, key, outer in admissible(first, labels):
-            shared[key] = shared.get(key, 0) + sizes * outer
-        return sum(shared.get(key, 0) * outer for _, key, outer in admissible(second, labels))
+    def leg(self, place):
+        return self.members[place[0]][0].legs[place[1]]
 
-    def admissible(part, labels):
-        """For each admissible tuple of sectors: the sizes of its summed legs, these legs' sectors, the other sizes."""
-        legs = [leg(place) for place in part.legs]
-        flux = group.total([members[k][0].flux for k in part.members])
-        for sectors in product(*[range(len(each.sectors)) for each in legs]):
-            if group.net(legs, [each.values_of(s)[0] for each, s in zip(legs, sectors)]) == flux:
-                inner = outer = 1
-                for place, each, s in zip(part.legs, legs, sectors):
-                    inner, outer = ((inner * each.sectors[s][1], outer) if label(place) in labels
-                                    else (inner, outer * each.sectors[s][1]))
-                yield inner, tuple(s for _, s in sorted((label(place), s) for place, s in zip(part.legs, sectors)
-                                                        if label(place) in labels)), outer
+    def labels_of(self, part):
+        return [self.label(place) for place in part.legs]
 
-    def joined(parts, labels):
-        legs = [place for part in parts for place in part.legs if label(place) not in labels]
-        return Part([k for part in parts for k in part.members], legs,
-                    labels + [each for part in parts for each in part.summed], None)
-
-    parts = [Part([k], [(k, i) for i in range(len(labels))], [], table)
-             for k, ((_, labels), table) in enumerate(zip(members, tables))]
-    steps = []
-
-    def take(meeting, labels):
+    def take(self, meeting):
+        """One step: two parts are multiplied over all labels that they share, or one is traced over all of its own."""
+        standing = [label for part in meeting for label in self.labels_of(part)]
+        labels = sorted({label for label in standing if standing.count(label) == 2})
+        if len(meeting) == 2:
+            labels = [label for label in labels if all(label in self.labels_of(part) for part in meeting)]
         kind = 'trace' if len(meeting) == 1 else \
-            'fuse' if any(is_combiner_for(part, labels) for part in meeting) else 'pair'
-        result = joined(meeting, labels)
-        paid = cost(meeting[0], meeting[1], labels) if kind == 'pair' else 0
-        steps.append(Step(kind, sorted(labels), [part.members[0] + 1 for part in meeting], meeting, result, paid))
-        parts[parts.index(meeting[0])] = result
+            'fuse' if any(self.is_combiner_for(part, labels) for part in meeting) else 'pair'
+        result = Part([k for part in meeting for k in part.members],
+                      [place for part in meeting for place in part.legs if self.label(place) not in labels],
+                      labels + [label for part in meeting for label in part.summed], None)
+        cost = self.cost(*meeting, labels) if kind == 'pair' else 0
+        self.steps.append(Step(kind, labels, meeting, result, cost))
+        self.parts[self.parts.index(meeting[0])] = result
         for part in meeting[1:]:
-            parts.remove(part)
+            self.parts.remove(part)
 
-    summed = set()
-    for each in order:
-        if each not in summed:
-            meeting = [part for part in parts if any(label(place) == each for place in part.legs)]
-            standing = [label(place) for part in meeting for place in part.legs if label(place) > 0]
-            if len(meeting) == 2:
-                both = [{label(place) for place in part.legs} for part in meeting]
-                labels = [one for one in sorted(set(standing)) if one in both[0] and one in both[1]]
-            else:
-                labels = [one for one in sorted(set(standing)) if standing.count(one) == 2]
-            take(meeting, labels)
-            summed.update(labels)
-    while len(parts) > 1:
-        take(parts[:2], [])
-    return steps
+    def is_combiner_for(self, part, labels):
+        """Whether the labels are those of all turned legs of a fuse table, or of the turned leg of a split table."""
+        if part.table is None or not labels:
+            return False
+        turned = self.labels_of(part)[1:] if part.table == 'fuse' else self.labels_of(part)[-1:]
+        return sorted(turned) == labels
+
+    def cost(self, first, second, labels):
+        """The sum, over pairs of admissible tuples that agree on the labels, of the product of all dimensions, those
+        of shared legs once."""
+        by_shared = {}
+        for shared, inner, outer in self.admissible(first, labels):
+            by_shared[shared] = by_shared.get(shared, 0) + inner * outer
+        return sum(by_shared.get(shared, 0) * outer for shared, _, outer in self.admissible(second, labels))
+
+    def admissible(self, part, labels):
+        """For each admissible tuple of a part: its sectors at the labels, their dimensions and those of the rest."""
+        legs = [self.leg(place) for place in part.legs]
+        flux = self.group.total([self.members[k][0].flux for k in part.members])
+        for sectors in product(*[range(len(leg.sectors)) for leg in legs]):
+            if self.group.net(legs, [leg.values_of(s)[0] for leg, s in zip(legs, sectors)]) == flux:
+                shared, inner, outer = [], 1, 1
+                for label, leg, s in zip(self.labels_of(part), legs, sectors):
+                    if label in labels:
+                        shared.append((label, s))
+                        inner *= leg.sectors[s][1]
+                    else:
+                        outer *= leg.sectors[s][1]
+                yield tuple(sorted(shared)), inner, outer
+
+    def worth(self, part):
+        """The entries of a part: the values by place, and the magnitude."""
+        def renamed(place):
+            return self.label(place) if self.label(place) in part.summed else -1 - part.legs.index(place)
+        members = [(self.members[k][0], [renamed((k, i)) for i in range(len(self.members[k][1]))])
+                   for k in sorted(part.members)]
+        return [(dict(zip(part.legs, values)), entry.magnitude())
+                for values, entry in value(self.group, members).entries.items()]
+
+    def sums(self, step):
+        """The sum of magnitudes at each values of the legs of a step's result. A fuse step has none that counts."""
+        result = {}
+
+        def add(values, size):
+            at = tuple(values[place] for place in step.result.legs)
+            result[at] = result.get(at, 0) + size
+
+        def at_labels(values):
+            return sorted({(self.label(place), v) for place, v in values.items() if self.label(place) in step.labels})
+
+        if step.kind == 'trace':
+            for values, size in self.worth(step.parts[0]):
+                if len(at_labels(values)) == len(step.labels):          # both ends of each label have one value
+                    add(values, size)
+        elif step.kind == 'pair':
+            others = self.worth(step.parts[1])
+            for values, size in self.worth(step.parts[0]):
+                for more, factor in others:
+                    if at_labels(values) == at_labels(more):
+                        add({**values, **more}, size * factor)
+        return result
+
+
+def greatest_sum(members):
+    """No sum of magnitudes of a network is above this: the product of what the entries of each tensor add up to, or 1
+    for a tensor of zeros, since the others are multiplied all the same."""
+    result = 1
+    for tensor, _ in members:
+        result *= max(1, sum(entry.magnitude() for entry in tensor.entries.values()))
+    return result
 
 
 def first_passing(group, members, order, tables):
     """The first step, the tuple of sectors and the offset at which a sum of magnitudes is above the limit, or None."""
-    def worth(part):
-        """The entries of a part as a list of (values by place, magnitude)."""
-        renamed = [(members[k][0], [place_label(part, (k, i)) for i in range(len(members[k][1]))])
-                   for k in sorted(part.members)]
-        entries = value(group, renamed).entries
-        return [(dict(zip(part.legs, values)), entry.magnitude()) for values, entry in entries.items()]
-
-    def place_label(part, place):
-        label = members[place[0]][1][place[1]]
-        return label if label in part.summed else -1 - part.legs.index(place)
-
-    def by_label(values, labels):
-        return sorted((members[k][1][i], v) for (k, i), v in values.items() if members[k][1][i] in labels)
-
-    for number, step in enumerate(steps_of(group, members, order, tables), 1):
-        sums = {}
-        if step.kind == 'trace':
-            for values, size in worth(step.parts[0]):
-                pairs = by_label(values, step.labels)
-                if all(pairs[i] == pairs[i + 1] for i in range(0, len(pairs), 2)):
-                    add_at(sums, step.result.legs, values, size)
-        elif step.kind == 'pair':
-            second = worth(step.parts[1])
-            for values, size in worth(step.parts[0]):
-                key = by_label(values, step.labels)
-                for others, factor in second:
-                    if by_label(others, step.labels) == key:
-                        add_at(sums, step.result.legs, {**values, **others}, size * factor)
-        legs = [members[k][0].legs[i] for k, i in step.result.legs]
-        passing = [place_of(legs, values) for values, size in sums.items() if size > LIMIT]
+    if greatest_sum(members) <= LIMIT:
+        return None
+    plan = Plan(group, members, order, tables)
+    for number, step in enumerate(plan.steps, 1):
+        legs = [plan.leg(place) for place in step.result.legs]
+        passing = [place_of(legs, values) for values, size in plan.sums(step).items() if size > LIMIT]
         if passing:
             return (number,) + min(passing)
     return None
-
-
-def add_at(sums, legs, values, size):
-    at = tuple(values[place] for place in legs)
-    sums[at] = sums.get(at, 0) + size
 
 
 def place_of(legs, values):
