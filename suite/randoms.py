@@ -24,6 +24,8 @@ class Random:
     def __init__(self, draw, twist=False):
         self.draw = draw
         self.twist = twist
+        self.lines = 0
+        self.size = 1
 
     def part(self, factor, spread):
         return self.draw.randrange(factor['n']) if factor['kind'] == 'zn' else self.draw.randint(-spread, spread)
@@ -61,75 +63,62 @@ class Random:
         return {'legs': legs, 'flux': list(flux), 'blocks': blocks}
 
     def network(self):
+        """A network in which about half of the legs are on lines between tensors; some tensors are combiners."""
         factors = self.draw.choice(GROUPS)
         group = Group(factors, Code())
         long_ones = self.draw.random() < 0.15
-        members, owners = [], []        # for each member its legs; for each line its ends
-        free, size = [], 1
-        for k in range(self.draw.choice([1, 2, 3, 3, 4, 4, 5])):
-            legs, ends = [], []
-            for _ in range(self.draw.choice([0, 1, 1, 2, 2, 2, 3, 4])):
-                if free and self.draw.random() < 0.7:
-                    place, leg = free.pop(self.draw.randrange(len(free)))
-                    legs.append(self.turned(leg))
-                    owners.append([place, (k, len(legs) - 1)])
-                    ends.append(len(legs) - 1)
-                elif size < 300:
-                    leg = {'dir': self.draw.choice(['out', 'in']), 'sectors': self.sectors(factors, 3)}
-                    size *= sum(d for _, d in leg['sectors'])
-                    if size < 300 and self.draw.random() < 0.2:
-                        owners.append([(k, len(legs)), (k, len(legs) + 1)])
-                        ends += [len(legs), len(legs) + 1]
-                        legs += [leg, self.turned(leg)]
-                    else:
-                        legs.append(leg)
-            order = list(range(len(legs)))
-            self.draw.shuffle(order)
-            values = 1
-            for leg in legs:
-                values *= sum(d for _, d in leg['sectors'])
-            if legs and values < 40 and self.draw.random() < 0.3:
-                member, shown = self.combined(group, [legs[i] for i in order])
-                places = dict(zip(order, shown[1]))
-                fused = shown[0]
-                free.append(((k, fused[0]), fused[1]))
-            else:
-                member = self.tensor(group, [legs[i] for i in order], long_ones)
-                places = {i: at for at, i in enumerate(order)}
-            owners = [[(k, places[p[1]]) if p[0] == k else p for p in line] for line in owners]
-            free += [((k, places[i]), legs[i]) for i in range(len(legs)) if i not in ends]
-            members.append(member)
-        names = self.draw.sample(range(1, 30), len(owners))
-        labels = {}
-        for name, line in zip(names, owners):
-            for place in line:
-                labels[place] = name
-        self.draw.shuffle(free)
-        for i, (place, _) in enumerate(free):
-            labels[place] = -1 - i
-        for k, member in enumerate(members):
-            member['labels'] = [labels[at] for at in sorted(p for p in labels if p[0] == k)]
+        members, ends, self.size = [], {}, 1    # for each line the members on it, and their legs
+        for _ in range(self.draw.choice([1, 2, 3, 3, 4, 4, 5])):
+            member, placed = self.member(group, self.placed_legs(factors, ends), long_ones)
+            for line, leg in placed:
+                ends.setdefault(line, []).append(leg)
+            members.append((member, [line for line, _ in placed]))
+        closed = [line for line in ends if len(ends[line]) == 2]
+        opened = [line for line in ends if len(ends[line]) == 1]
+        self.draw.shuffle(opened)
+        labels = dict(zip(closed, self.draw.sample(range(1, 40), len(closed))))
+        labels.update((line, -1 - i) for i, line in enumerate(opened))
         self.draw.shuffle(members)
-        document = {'group': factors, 'tensors': members}
+        document = {'group': factors, 'tensors': [dict(member, labels=[labels[line] for line in lines])
+                                                  for member, lines in members]}
         if self.draw.random() < 0.5:
-            order = sorted(names)
-            self.draw.shuffle(order)
-            document['order'] = order
+            document['order'] = self.draw.sample([labels[line] for line in closed], len(closed))
         if self.twist:
-            document['twist'] = sorted(name for name in names if self.draw.random() < 0.5)
+            document['twist'] = sorted(labels[line] for line in closed if self.draw.random() < 0.5)
         return document
 
-    def combined(self, group, legs):
-        """A combiner whose table has these legs, and where its fused leg (place, leg) and they stand in the table."""
+    def placed_legs(self, factors, ends):
+        """Legs, each with the number of its line, in random order: second ends of lines, new lines, traced lines."""
+        legs = []
+        for _ in range(self.draw.choice([0, 1, 1, 2, 2, 2, 3, 4])):
+            free = [line for line in ends if len(ends[line]) == 1 and all(line != taken for taken, _ in legs)]
+            if free and self.draw.random() < 0.7:
+                line = self.draw.choice(free)
+                legs.append((line, self.turned(ends[line][0])))
+            elif self.size < 300:
+                leg = {'dir': self.draw.choice(['out', 'in']), 'sectors': self.sectors(factors, 3)}
+                self.size *= sum(d for _, d in leg['sectors'])
+                self.lines += 1
+                legs.append((self.lines, leg))
+                if self.size < 300 and self.draw.random() < 0.2:
+                    legs.append((self.lines, self.turned(leg)))
+        self.draw.shuffle(legs)
+        return legs
+
+    def member(self, group, placed, long_ones):
+        """A tensor on these legs, or a combiner whose table has them and its fused leg; and its legs in order."""
+        legs, values = [leg for _, leg in placed], 1
+        for leg in legs:
+            values *= sum(d for _, d in leg['sectors'])
+        if not legs or values >= 40 or self.draw.random() < 0.7:
+            return self.tensor(group, legs, long_ones), placed
         mode = self.draw.choice(['fuse', 'split'])
         own = [self.turned(leg) for leg in legs] if mode == 'fuse' else legs
         combine = {'dir': self.draw.choice(['out', 'in']), 'legs': own, 'mode': mode}
-        table = combiner(group, combine)
-        count = len(legs)
-        fused = table.legs[0] if mode == 'fuse' else table.legs[-1]
-        document = {'dir': 'out' if fused.out else 'in', 'sectors': [[list(c), d] for c, d in fused.sectors]}
-        places = [count - i for i in range(count)] if mode == 'fuse' else list(range(count))
-        return {'combine': combine}, ((0 if mode == 'fuse' else count, document), places)
+        fused = combiner(group, combine).legs[0 if mode == 'fuse' else -1]
+        self.lines += 1
+        end = (self.lines, {'dir': 'out' if fused.out else 'in', 'sectors': [[list(c), d] for c, d in fused.sectors]})
+        return {'combine': combine}, [end] + placed[::-1] if mode == 'fuse' else placed + [end]
 
     @staticmethod
     def turned(leg):
