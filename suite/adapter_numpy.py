@@ -1,11 +1,11 @@
 #!/usr/bin/env python3
 """A worked adapter: a small dense code over NumPy, as a user might have one, made to answer the suite.
 
-    suite/judge --relative 1e-10 python3 suite/adapter_numpy.py
+    suite/judge --relative 1e-10 --lines python3 suite/adapter_numpy.py
 
 The first part is the code: arrays with the parities (0 or 1) of each leg's values, and signs where odd values are
-exchanged. The second part is the adapter: it reads documents, writes answers, and ends with status 77 for what the
-code does not support.
+exchanged. The second part is the adapter: it reads documents and writes answers, and says what is not supported: by
+status 77 or, where it is started once for all documents, by the line `unsupported`.
 """
 import json
 import sys
@@ -98,7 +98,7 @@ def operator(group, site, name):
         return {'I': ([0], np.eye(2)), 'N': ([0], np.diag([0, 1])), 'C': ([-1], np.array([[0, 1], [0, 0]])),
                 'Cdag': ([1], np.array([[0, 0], [1, 0]]))}[name]
     if site['kind'] != 'own':
-        sys.exit(77)
+        raise NotImplementedError
     if name == 'I':
         return [0] * len(group), np.eye(starts(site)[-1])
     return site['ops'][name]['charge'], np.array([[number(e) for e in row] for row in site['ops'][name]['table']])
@@ -113,21 +113,31 @@ def written(group, flux, array, legs):
     return json.dumps({'blocks': blocks, 'flux': flux, 'group': group, 'legs': legs})
 
 
-def main():
-    command, document = sys.argv[1], json.load(sys.stdin)
+def answer(command, document):
     group, tensors = document['group'], document.get('tensors', [])
     if command not in ('contract', 'overlap', 'expect') or 'twist' in document or any('combine' in t for t in tensors):
-        sys.exit(77)
+        raise NotImplementedError
     if command == 'contract':
-        print(written(group, total(group, [t['flux'] for t in tensors]), *contracted(group, tensors)))
-        return
+        return written(group, total(group, [t['flux'] for t in tensors]), *contracted(group, tensors))
     (bra, _), (ket, legs) = [amplitudes(group, document[name]) for name in ('bra', 'ket')]
     charges = [t['flux'] for t in document['ket']] + [[-q for q in t['flux']] for t in document['bra']]
     if command == 'expect':
         ket = applied(group, document, ket, legs)
         charges += [operator(group, document['sites'][j - 1], name)[0] for j, name in document['terms'][0]['ops']]
-    print(written(group, total(group, charges), np.array(np.sum(np.conj(bra) * ket)), []))
+    return written(group, total(group, charges), np.array(np.sum(np.conj(bra) * ket)), [])
+
+
+def answers(command):
+    """One answer for the command of the arguments, or with `lines` one for each line."""
+    pairs = (line.split(' ', 1) for line in sys.stdin) if command == 'lines' else [(command, sys.stdin.read())]
+    for name, text in pairs:
+        try:
+            print(answer(name, json.loads(text)), flush=True)
+        except NotImplementedError:
+            if command != 'lines':
+                sys.exit(77)
+            print('unsupported', flush=True)
 
 
 if __name__ == '__main__':
-    main()
+    answers(sys.argv[1])

@@ -3,6 +3,7 @@
 import json
 import os
 import subprocess
+import threading
 from itertools import combinations
 
 from model.answers import answer, exact_value
@@ -120,6 +121,34 @@ def run_program(command, name, text, seconds=60):
         return lines[-1] if 'passed' in lines[-1] else 'no answer: exit status %d %s' % (ran.returncode, lines[-1])
     out = ran.stdout.decode('utf-8', 'replace')
     return contracted(out) if name == 'mpo' else out[:-1] if out.endswith('\n') else out
+
+
+class Lines:
+    """A program that is started once, with `lines` as its last argument. It reads lines, each the name of a command, a
+    blank and a document, and writes for each one line: the answer, or `unsupported`."""
+
+    def __init__(self, command):
+        self.program = subprocess.Popen(command + ['lines'], stdin=subprocess.PIPE, stdout=subprocess.PIPE,
+                                        stderr=subprocess.DEVNULL)
+
+    def run(self, name, document, seconds=60):
+        watch = threading.Timer(seconds, self.program.kill)
+        watch.start()
+        try:
+            self.program.stdin.write(('%s %s\n' % (name, json.dumps(document))).encode())
+            self.program.stdin.flush()
+            line = self.program.stdout.readline().decode('utf-8', 'replace')
+        except BrokenPipeError:
+            line = ''
+        watch.cancel()
+        if not line.endswith('\n'):
+            return 'no answer: the program has ended'
+        line = line.rstrip('\r\n')
+        return None if line == 'unsupported' else contracted(line) if name == 'mpo' else line
+
+    def close(self):
+        self.program.stdin.close()
+        self.program.wait()
 
 
 def contracted(text):
