@@ -64,7 +64,7 @@ def main():
     wrong += wrong_answers(cases, os.path.abspath(sys.argv[1]))
     if len(cases) < 150:
         wrong.append('there are %d cases' % len(cases))
-    for line in wrong:
+    for line in wrong[:20] + (['%d more' % (len(wrong) - 20)] if len(wrong) > 20 else []):
         print('suite: ' + line)
     if not wrong:
         print('suite: %d cases agree; %d mistakes named' % (

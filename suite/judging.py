@@ -152,9 +152,10 @@ class Lines:
 
 
 def contracted(text):
-    """The tensor that a network is worth, by the model."""
+    """The tensor that a network is worth, by the model; a tensor is its own worth."""
     try:
-        return answer('contract', json.loads(text))
+        document = json.loads(text)
+        return answer('contract', document) if 'tensors' in document else text.rstrip('\n')
     except (ValueError, KeyError, TypeError, IndexError):
         return 'no answer: not a network: ' + text[:60]
 
