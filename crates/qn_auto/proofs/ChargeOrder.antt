@@ -1,5 +1,5 @@
 -- The order of charges, and the sectors of a link.
-use Rattle.std.proofs.Common.{◌≡◌, ℕ, ℤ, zero, suc, ◌+◌, ◌<◌, ◌≤◌, ◌⊎◌, inl, inr, Bool, true, false, cond, List, [], ◌∷◌, length, map, refl, sym, ◌∙◌, ap, subst, arith}
+use Rattle.std.proofs.Common.{◌≡◌, ℕ, ℤ, suc, ◌+◌, ◌<◌, ◌≤◌, Bool, true, false, cond, List, [], ◌∷◌, length, refl, sym, ap, arith}
 use Rattle.std.specs.Cmp.Lexicographic.{slice_cmp}
 use Rattle.std.specs.Ordering.{int_cmp, is_lt, ordering_reverse}
 use Rattle.std.specs.declared.cmp.Ordering.{Ordering}
@@ -10,14 +10,10 @@ use Rattle.qn_sign.specs.Sign.{is_in}
 use Rattle.qn_index.specs.Legs.{SectorValue, total}
 use Rattle.qn_block.proofs.Partition.{charges_total, same_charges}
 use Rattle.qn_auto.specs.Automaton.{Stage, Term, stage, stages, enter, enter_new, same_stage}
-use Rattle.qn_auto.specs.LinkOrder.{IsStrict, IsAscending, add_value, sectors_of}
+use Rattle.qn_auto.specs.LinkOrder.{IsStrict, add_value, sectors_of}
 use Rattle.qn_auto.specs.SumAutomaton.{charge_lower}
 use Rattle.qn_auto.proofs.Stages.{AllOf}
-
-is_less : (o : Ordering) → is_lt o ≡ true → o ≡ Less
-is_less Less e = refl
-is_less Equal e = absurd (false≢true e)
-is_less Greater e = absurd (false≢true e)
+use Rattle.qn_facts.proofs.Orderings.{is_less}
 
 tie : (o p : Ordering) → o ≡ ordering_reverse p → is_lt o ≡ false → is_lt p ≡ false → o ≡ Equal
 tie Less p r e f = absurd (false≢true (sym e))

@@ -1,55 +1,15 @@
 -- Numbers of tuples and of values, and tuples by their numbers.
-use Rattle.std.proofs.Common.{◌≡◌, ℕ, zero, suc, ◌+◌, ◌*◌, ◌/◌, ◌%◌, ◌-◌, ◌^◌, ◌≤◌, ◌<◌, List, [], ◌∷◌, ◌++◌, length, get_or, take, drop, set, arith, refl, ap, ◌∙◌, sym, subst, add-one, append_assoc, ◌⊎◌, inl, inr}
+use Rattle.std.proofs.Common.{◌≡◌, ℕ, zero, suc, ◌+◌, ◌*◌, ◌/◌, ◌%◌, ◌-◌, ◌≤◌, ◌<◌, List, [], ◌∷◌, ◌++◌, length, get_or, take, drop, set, arith, refl, ap, ◌∙◌, sym, subst, add-one, append_assoc}
 use Rattle.std.proofs.Math.Nat.{mul-div_cancel_left, mul_comm, mul_assoc, mul-le-mul_left}
 use Rattle.std.specs.List.{All}
 use Rattle.std.proofs.Math.ListN.{drop_of_length-le}
-use Rattle.std.proofs.lemmas.Bool.{cases_lt}
-use Rattle.std.proofs.lemmas.List.{length-set, take_more_set, take_all, append-nil}
-use Rattle.qn_index.specs.Legs.{LegValue, IsLeg, IsSound, total}
+use Rattle.std.proofs.lemmas.List.{length-set, take_more_set}
+use Rattle.qn_index.specs.Legs.{LegValue, IsLeg, IsSound}
 use Rattle.qn_index.specs.Tuples.{count, IsTuple}
-use Rattle.qn_index.specs.Extents.{capped}
 use Rattle.qn_index.proofs.Shapes.{nth_tuple, below_product, rank, rank_is}
 use Rattle.qn_index.proofs.Nets.{tuple_length}
 use Rattle.qn_index.proofs.Admitted.{mul_add}
-use Rattle.qn_block.specs.Combiners.{number_of_values}
 use Rattle.qn_index.proofs.Shapes.{count_suc}
-
--- one leg more, from the last: of a product that stands still at 2^20 + 1
-capped_times : (k m d : ℕ) → 0 < d → capped k (capped k m * d) ≡ capped k (d * m)
-capped_times k m d p = by (cases_lt m (k + 1))
-  where
-    flip : capped k (m * d) ≡ capped k (d * m)
-    flip = ap (capped k) (mul_comm m d)
-
-    by : (m < k + 1) ⊎ (k + 1 ≤ m) → capped k (capped k m * d) ≡ capped k (d * m)
-    by (inl lt) = let same : capped k m ≡ m = omega arith in ap (λ n. capped k (n * d)) same ∙ flip
-    by (inr ge) =
-        let top : capped k m ≡ k + 1 = omega arith in
-        let a = mul-le-mul_left (k + 1) p in
-        let b = mul-le-mul_left m p in
-        let c = mul_comm d m in
-        ap (λ n. capped k (n * d)) top ∙ omega (arith, a, b, c)
-
-number_suc : (ls : List LegValue) (i : ℕ) (l : LegValue) → i < length ls → number_of_values (drop i ls) ≡ total (get_or ls i l).sectors * number_of_values (drop (suc i) ls)
-number_suc [] i l lt = absurd (omega arith)
-number_suc (k ∷ ls) zero l lt = refl
-number_suc (k ∷ ls) (suc i) l lt = number_suc ls i l (omega arith)
-
-pub number_back : (ls : List LegValue) (i : ℕ) (l : LegValue) (size d : ℕ) → 0 < i → i - 1 < length ls → l ≡ get_or ls (i - 1) l → d ≡ total l.sectors → 0 < d → size ≡ capped (2 ^ 20) (number_of_values (drop i ls)) → capped (2 ^ 20) (size * d) ≡ capped (2 ^ 20) (number_of_values (drop (i - 1) ls))
-number_back ls i l size d pos lt is e some m =
-    let back : i ≡ suc (i - 1) = omega arith in
-    let dim : total (get_or ls (i - 1) l).sectors ≡ d = ap (λ (k : LegValue). total k.sectors) (sym is) ∙ sym e in
-    let whole : number_of_values (drop (i - 1) ls) ≡ d * number_of_values (drop i ls) =
-    number_suc ls (i - 1) l lt ∙ (ap (λ k. k * number_of_values (drop (suc (i - 1)) ls)) dim ∙ ap (λ k. d * number_of_values (drop k ls)) (sym back)) in
-    ap (λ n. capped (2 ^ 20) (n * d)) m ∙ (capped_times (2 ^ 20) (number_of_values (drop i ls)) d some ∙ ap (capped (2 ^ 20)) (sym whole))
-
-pub count_back : (ls : List LegValue) (i : ℕ) (l : LegValue) (size d : ℕ) → 0 < i → i - 1 < length ls → l ≡ get_or ls (i - 1) l → d ≡ length l.sectors → 0 < d → size ≡ capped (2 ^ 20) (count (drop i ls)) → capped (2 ^ 20) (size * d) ≡ capped (2 ^ 20) (count (drop (i - 1) ls))
-count_back ls i l size d pos lt is e some m =
-    let back : i ≡ suc (i - 1) = omega arith in
-    let dim : length (get_or ls (i - 1) l).sectors ≡ d = ap (λ (k : LegValue). length k.sectors) (sym is) ∙ sym e in
-    let whole : count (drop (i - 1) ls) ≡ d * count (drop i ls) =
-    count_suc ls (i - 1) l lt ∙ (ap (λ k. k * count (drop (suc (i - 1)) ls)) dim ∙ ap (λ k. d * count (drop k ls)) (sym back)) in
-    ap (λ n. capped (2 ^ 20) (n * d)) m ∙ (capped_times (2 ^ 20) (count (drop i ls)) d some ∙ ap (capped (2 ^ 20)) (sym whole))
 
 -- ---- the n-th tuple
 
@@ -98,11 +58,6 @@ counted_more ls i n s r d t l lt is e m =
       inner = subst (λ k. r / k < d) (sym q) b.1;
       next = subst (λ k. IsCounted ls (i + 1) n k (r % k) (set t i (r / k))) (sym q) made;
     }
-
-pub counted_all : (ls : List LegValue) (i n s r : ℕ) (t : List ℕ) → i ≡ length ls → IsCounted ls i n s r t → t ≡ nth_tuple ls n
-counted_all ls i n s r t e m =
-    let none : drop i ls ≡ [] = drop_of_length-le ls (omega arith) in
-    sym (take_all i t (omega (arith, m.long))) ∙ (sym (append-nil (take i t)) ∙ (ap (λ ks. take i t ++ nth_tuple ks r) (sym none) ∙ m.tuple))
 
 -- ---- the number of a tuple
 
@@ -164,6 +119,3 @@ number_all ls t i n e m =
     let size : n * count (drop i ls) ≡ n * 1 = ap (λ (ks : List LegValue). n * count ks) none in
     let rest : rank (drop i ls) (drop i t) ≡ 0 = ap (λ (ks : List LegValue). rank ks (drop i t)) none in
     omega (arith, is, size, rest)
-
-pub number_none : (ls : List LegValue) (t : List ℕ) → IsNumbered ls t 0 0
-number_none ls t = record { number = omega arith }

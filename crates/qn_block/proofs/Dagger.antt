@@ -29,22 +29,18 @@ use Rattle.qn_value.proofs.Values.{same_values-equal}
 use Rattle.qn_block.specs.Blocked.{BlockedValue, IsBlocked, IsConjugate, IsConjugateBlock, AreDistinct, conjugate_legs, offsets_at, tensor_of}
 use Rattle.qn_block.specs.Refusals.{block_at, NotAscendingAt}
 use Rattle.qn_block.proofs.Rows.{same_from}
-use Rattle.qn_block.proofs.Lookup.{same_tuple, not_below_itself, values_length, offset_same, entry_found, entry_nowhere}
+use Rattle.qn_block.proofs.Lookup.{not_below_itself, values_length, offset_same, entry_found, entry_nowhere}
 use Rattle.qn_block.proofs.Entries.{by_blocks, entry_out_of_range}
 use Rattle.qn_block.proofs.Ascending.{in_range_or_not, blocked_at}
 use Rattle.qn_block.proofs.Sound.{sound_ascending}
 use Rattle.qn_block.proofs.Mirror
+use Rattle.qn_facts.proofs.Orderings.{is_less, same_list}
 
 -- ---- sorted blocks
 
 -- a block's tuple is below another's
 abbrev pub below_test : BlockValue → BlockValue → Bool
 below_test b c = is_lt (slice_cmp nat_cmp b.tuple c.tuple)
-
-lt_from : (o : Ordering) → is_lt o ≡ true → o ≡ Less
-lt_from Less e = refl
-lt_from Equal e = absurd (false≢true e)
-lt_from Greater e = absurd (false≢true e)
 
 not_lt_reversed : (o : Ordering) → o ≡ Less → is_lt (ordering_reverse o) ≡ false
 not_lt_reversed o e = subst (λ p. is_lt (ordering_reverse p) ≡ false) (sym e) refl
@@ -53,7 +49,7 @@ pub below_order : IsStrictWeakOrder below_test
 below_order = record { one_way = one_way; chain = chain }
   where
     one_way : (b c : BlockValue) → below_test b c ≡ true → below_test c b ≡ false
-    one_way b c e = ap is_lt (nat_list_cmp_total.antisymm c.tuple b.tuple) ∙ not_lt_reversed (slice_cmp nat_cmp b.tuple c.tuple) (lt_from (slice_cmp nat_cmp b.tuple c.tuple) e)
+    one_way b c e = ap is_lt (nat_list_cmp_total.antisymm c.tuple b.tuple) ∙ not_lt_reversed (slice_cmp nat_cmp b.tuple c.tuple) (is_less (slice_cmp nat_cmp b.tuple c.tuple) e)
 
     turn : (o : Ordering) → is_lt o ≡ false → is_gt (ordering_reverse o) ≡ false
     turn Less e = absurd (false≢true (sym e))
@@ -72,9 +68,6 @@ below_order = record { one_way = one_way; chain = chain }
         let db : is_gt (slice_cmp nat_cmp d.tuple b.tuple) ≡ false = upto nat_list_cmp_total d.tuple c.tuple b.tuple dc cb in
         back (slice_cmp nat_cmp b.tuple d.tuple) (sym (ap is_gt (nat_list_cmp_total.antisymm d.tuple b.tuple)) ∙ db)
 
-tuple_of : BlockValue → List ℕ
-tuple_of b = b.tuple
-
 same_decides : (a b : List ℕ) → Decides (same_values a b) (a ≡ b)
 same_decides a b = (same_values-equal a b, same_from a b)
 
@@ -91,7 +84,7 @@ tuple_there (b ∷ bs) (suc i) d lt = tuple_there bs i d (omega arith)
 
 less_from : (a b : List ℕ) (o : Ordering) → slice_cmp nat_cmp a b ≡ o → a ≢ b → is_lt (slice_cmp nat_cmp b a) ≡ false → slice_cmp nat_cmp a b ≡ Less
 less_from a b Less e n f = e
-less_from a b Equal e n f = absurd (n (same_tuple a b e))
+less_from a b Equal e n f = absurd (n (same_list a b e))
 less_from a b Greater e n f = absurd (false≢true (sym f ∙ (ap is_lt (nat_list_cmp_total.antisymm b a) ∙ ap (λ o. is_lt (ordering_reverse o)) e)))
 
 pub sorted_ascending : (bs cs : List BlockValue) → AreDistinct bs → IsPermutation bs cs → IsSortedBy below_test cs → AreAscending cs

@@ -2,7 +2,7 @@
 use Rattle.std.proofs.Common.{Contains, ◌≡◌, ℕ, ℤ, suc, ◌+◌, ◌-◌, ◌≤◌, ◌<◌, List, [], ◌∷◌, ◌++◌, length, get_or, take, map, flat_map, arith, refl, ap, ◌∙◌, sym, subst, ⊎_elim, zero-add, append_assoc}
 use Rattle.std.specs.List.{All}
 use Rattle.std.proofs.Math.Nat.{mul-le-mul_left, mul-le-mul_right}
-use Rattle.std.proofs.lemmas.List.{get_or_default, length-map, take_more, take_all, append-nil}
+use Rattle.std.proofs.lemmas.List.{get_or_default, take_more, take_all, append-nil}
 use Rattle.qn_charge.specs.declared.factor.Factor.{Factor}
 use Rattle.qn_charge.specs.Charges.{IsGroup, IsCanonical}
 use Rattle.qn_charge.specs.Laws.{none_out_of_range}
@@ -35,9 +35,6 @@ no_leg_fault fs ps (DimRange i) h own e =
     ⊎_elim (λ z. omega (arith, dim.0, z)) (λ r. ⊎_elim (λ z. omega (arith, dim.1, z)) (λ z. omega (arith, within, bound, z)) r) bad.1
 no_leg_fault fs ps NoSector h own e = let some = h.some in omega (arith, some, e.2)
 no_leg_fault fs ps TooManySectors h own e = let few = h.few in omega (arith, few, e.2)
-
-pub too_many_charges : (fs : List Factor) (ls : List LegValue) (arrow : Dir) → 64 < length (fused_charges fs ls arrow) → IsFusable fs ls arrow → ⊥
-too_many_charges fs ls arrow lt h = let few = h.leg.few in omega (arith, lt, few, length-map (fused_charges fs ls arrow) (sector_with fs ls arrow))
 
 pub too_many_values : (fs : List Factor) (ls : List LegValue) (arrow : Dir) → 1048576 < number_of_values ls → IsFusable fs ls arrow → ⊥
 too_many_values fs ls arrow lt h = let bound = h.leg.bound in omega (arith, lt, bound, fused_total fs ls arrow)
@@ -134,6 +131,3 @@ pub turned_all : (fs : List Factor) (ls : List LegValue) (arrow : Dir) (cs : Lis
 turned_all fs ls arrow cs i n ps ss e le h =
     let all : take i cs ≡ fused_charges fs ls arrow = take_all i cs le ∙ e in
     (h.sectors ∙ ap (map (sector_with fs ls arrow)) all, h.starts ∙ ap (λ ds. starts_from ls 0 (flat_map (tuples_with fs ls arrow) ds)) all)
-
-pub no_turn : (fs : List Factor) (ls : List LegValue) (arrow : Dir) (cs : List (List ℤ)) (ps : List SectorValue) (ss : List StartValue) → ps ≡ [] → ss ≡ [] → IsTurned fs ls arrow cs 0 0 ps ss
-no_turn fs ls arrow cs ps ss e f = record { next = refl; sectors = e; starts = f }

@@ -1,14 +1,12 @@
 -- Blocks found by their tuples.
-use Rattle.std.proofs.Common.{◌≡◌, ◌≢◌, ℕ, zero, suc, ◌+◌, ◌*◌, ◌≤◌, ◌<◌, List, [], ◌∷◌, ◌++◌, length, get_or, take, drop, set, add-one, arith, refl, ap, ◌∙◌, sym, subst, ◌⊎◌, inl, inr, ⊎_elim, cond}
+use Rattle.std.proofs.Common.{◌≡◌, ◌≢◌, ℕ, zero, suc, ◌+◌, ◌*◌, ◌≤◌, ◌<◌, List, [], ◌∷◌, ◌++◌, length, get_or, take, drop, set, arith, refl, ap, ◌∙◌, sym, subst, ◌⊎◌, inl, inr, ⊎_elim, cond}
 use Rattle.std.specs.Cmp.Lexicographic.{slice_cmp}
-use Rattle.std.specs.Ordering.{nat_cmp, ordering_then, ordering_index}
+use Rattle.std.specs.Ordering.{nat_cmp, ordering_index}
 use Rattle.std.specs.List.Sorted.{IsSearchInRange, IsBinarySearchResult, IsNonDecreasingBy}
 use Rattle.std.specs.Prelude.{MatchResult, Result, Ok, Err}
-use Rattle.std.specs.declared.cmp.Ordering.{Ordering}
 use Rattle.std.specs.declared.cmp.Ordering.TheVariants.{Less, Equal, Greater}
-use Rattle.std.proofs.lemmas.Cmp.{nat_list_cmp_total, tied_itself, alike_right, ranked}
+use Rattle.std.proofs.lemmas.Cmp.{nat_list_cmp_total, tied_itself, alike_right}
 use Rattle.std.proofs.lemmas.Bool.{cases_lt}
-use Rattle.std.proofs.Math.ListN.{drop_of_length-le}
 use Rattle.std.proofs.lemmas.List.{get_or_default, length-set, take_more, take_more_set, take_all}
 use Rattle.qn_gauss.specs.Gaussian.{zero_g}
 use Rattle.qn_index.specs.Legs.{LegValue, total, sector_of, offset_in}
@@ -18,6 +16,8 @@ use Rattle.qn_value.specs.Tensors.{BlockValue, no_block, entry_in, AreAscending}
 use Rattle.qn_block.specs.Blocked.{offsets_at}
 use Rattle.qn_block.specs.Refusals.{block_at}
 use Rattle.qn_block.proofs.Rows.{same_from, differ_from}
+use Rattle.qn_facts.proofs.Orderings.{index_rises, same_list}
+pub use Rattle.qn_facts.proofs.Orderings.{same_list as same_tuple}
 
 less_not_equal : Less ≡ Equal → ⊥
 less_not_equal e = cc
@@ -61,29 +61,6 @@ pub entry_found : (ls : List LegValue) (bs : List BlockValue) (xs : List ℕ) (i
 entry_found ls bs xs i a lt e =
     entry_there ls bs xs i lt e (λ j h s. let same : j ≡ i = one_block bs j i a (omega arith) lt (s ∙ sym e) in omega arith)
 
-both_equal : (o p : Ordering) → ordering_then o p ≡ Equal → (o ≡ Equal) × (p ≡ Equal)
-both_equal Less p e = absurd (cc e)
-both_equal Equal p e = (refl, e)
-both_equal Greater p e = absurd (cc e)
-
--- tuples that tie are the same
-pub same_tuple : (xs ys : List ℕ) → slice_cmp nat_cmp xs ys ≡ Equal → xs ≡ ys
-same_tuple [] [] e = refl
-same_tuple [] (y ∷ ys) e = absurd (cc e)
-same_tuple (x ∷ xs) [] e = absurd (cc e)
-same_tuple (x ∷ xs) (y ∷ ys) e =
-    let b = both_equal (nat_cmp x y) (slice_cmp nat_cmp xs ys) e in
-    let first : x ≡ y = ranked x y Equal (sym b.0) in
-    let rest : xs ≡ ys = same_tuple xs ys b.1 in
-    cc
-
-index_rises : (o p : Ordering) → (p ≡ Less → o ≡ Less) → (p ≡ Equal → o ≡ Less) → ordering_index o ≤ ordering_index p
-index_rises o Less l e = subst (λ k. ordering_index k ≤ 0) (sym (l refl)) (omega arith)
-index_rises o Equal l e = subst (λ k. ordering_index k ≤ 1) (sym (e refl)) (omega arith)
-index_rises Less Greater l e = omega arith
-index_rises Equal Greater l e = omega arith
-index_rises Greater Greater l e = omega arith
-
 -- how the blocks' tuples stand to a tuple rises
 tuples_rise : (bs : List BlockValue) (t : List ℕ) → AreAscending bs → IsNonDecreasingBy (λ (b : BlockValue). ordering_index (slice_cmp nat_cmp b.tuple t)) bs
 tuples_rise bs t a i j d le lt = by (cases_lt i j)
@@ -105,7 +82,7 @@ tuples_rise bs t a i j d le lt = by (cases_lt i j)
 -- what a binary search for a tuple answers
 pub looked_up : (bs : List BlockValue) (t : List ℕ) (r : Result ℕ ℕ) → AreAscending bs → IsSearchInRange r (length bs) → IsBinarySearchResult (λ b. slice_cmp nat_cmp b.tuple t) bs r →
     MatchResult r (λ i. (i < length bs) × ((block_at bs i).tuple ≡ t)) (λ i. (j : ℕ) → j < length bs → (block_at bs j).tuple ≢ t)
-looked_up bs t (Ok i) a range found = (range, same_tuple (block_at bs i).tuple t (found no_block))
+looked_up bs t (Ok i) a range found = (range, same_list (block_at bs i).tuple t (found no_block))
 looked_up bs t (Err i) a range found = λ j lt e.
     let parted = found (tuples_rise bs t a) in
     let tied : slice_cmp nat_cmp (block_at bs j).tuple t ≡ Equal = subst (λ u. slice_cmp nat_cmp u t ≡ Equal) (sym e) (tied_itself nat_list_cmp_total t) in
@@ -178,30 +155,3 @@ filled_all n i array all e long h = subst (λ k. take k array ≡ take k all) e 
 pub record IsSameRange (ls : List LegValue) (xs : List ℕ) (i : ℕ) : Type 0 where
   pub to : IsValues (drop i ls) (drop i xs) → IsValues ls xs
   pub from : IsValues ls xs → IsValues (drop i ls) (drop i xs)
-
-range_first : (ls : List LegValue) (xs : List ℕ) (i : ℕ) (l : LegValue) → i < length ls → length xs ≡ length ls →
-    (IsValues (drop i ls) (drop i xs) → (get_or xs i 0 < total (get_or ls i l).sectors) × IsValues (drop (suc i) ls) (drop (suc i) xs))
-    × ((get_or xs i 0 < total (get_or ls i l).sectors) × IsValues (drop (suc i) ls) (drop (suc i) xs) → IsValues (drop i ls) (drop i xs))
-range_first [] xs i l lt n = absurd (omega arith)
-range_first (k ∷ ls) [] i l lt n = absurd (omega arith)
-range_first (k ∷ ls) (x ∷ xs) zero l lt n = (λ h. h, λ h. h)
-range_first (k ∷ ls) (x ∷ xs) (suc i) l lt n = range_first ls xs i l (omega arith) (omega arith)
-
-pub range_more : (ls : List LegValue) (xs : List ℕ) (i : ℕ) (l : LegValue) (d : ℕ) → i < length ls → length xs ≡ length ls → l ≡ get_or ls i l → d ≡ total l.sectors → get_or xs i 0 < d → IsSameRange ls xs i → IsSameRange ls xs (i + 1)
-range_more ls xs i l d lt n is e below h =
-    let r = range_first ls xs i l lt n in
-    let here : get_or xs i 0 < total (get_or ls i l).sectors = subst (λ (k : LegValue). get_or xs i 0 < total k.sectors) is (omega (arith, e, below)) in
-    let next : IsSameRange ls xs (suc i) = record { to = λ v. h.to (r.1 (here, v)); from = λ v. (r.0 (h.from v)).1 } in
-    subst (IsSameRange ls xs) (sym (add-one i)) next
-
-pub range_fails : (ls : List LegValue) (xs : List ℕ) (i : ℕ) (l : LegValue) (d : ℕ) → i < length ls → length xs ≡ length ls → l ≡ get_or ls i l → d ≡ total l.sectors → d ≤ get_or xs i 0 → IsValues ls xs → ⊥
-range_fails ls xs i l d lt n is e above h = let in_range = value_at ls xs i l h lt is in omega (arith, e, in_range)
-
-pub range_start : (ls : List LegValue) (xs : List ℕ) → IsSameRange ls xs 0
-range_start ls xs = record { to = λ h. h; from = λ h. h }
-
-pub range_end : (ls : List LegValue) (xs : List ℕ) (i : ℕ) → i ≡ length ls → length xs ≡ length ls → IsSameRange ls xs i → IsValues ls xs
-range_end ls xs i e n h =
-    let none : drop i ls ≡ [] = drop_of_length-le ls (omega arith) in
-    let gone : drop i xs ≡ [] = drop_of_length-le xs (omega arith) in
-    h.to (subst (λ ks. IsValues ks (drop i xs)) (sym none) gone)

@@ -1,20 +1,20 @@
 -- Where values of the legs stand among those of the fused leg.
-use Rattle.std.proofs.Common.{◌≡◌, ◌≢◌, ℕ, ℤ, zero, suc, ◌+◌, ◌-◌, ◌≤◌, ◌<◌, List, [], ◌∷◌, ◌++◌, length, get_or, take, map, flat_map, arith, refl, ap, ◌∙◌, sym, subst, ◌⊎◌, inl, inr, true, false, nat_le, nat_eq, append_assoc}
+use Rattle.std.proofs.Common.{◌≡◌, ◌≢◌, ℕ, ℤ, zero, suc, ◌+◌, ◌-◌, ◌≤◌, ◌<◌, List, [], ◌∷◌, ◌++◌, length, get_or, take, map, flat_map, arith, refl, ap, ◌∙◌, sym, subst, ◌⊎◌, inl, inr, true, false, nat_le, append_assoc}
 use Rattle.std.specs.List.Sorted.{IsPartitionPoint}
-use Rattle.std.proofs.lemmas.Bool.{cases_lt, cases_eq, eq-eqb, eqb-true, leb-true, leb-false, false_from_ne_true, false≢true}
+use Rattle.std.proofs.lemmas.Bool.{cases_lt, leb-true, leb-false, false≢true}
 use Rattle.std.proofs.lemmas.List.{get_or_default, take_all}
 use Rattle.qn_charge.specs.declared.factor.Factor.{Factor}
 use Rattle.qn_index.specs.declared.leg.Dir.{Dir}
 use Rattle.qn_index.specs.Legs.{LegValue}
-use Rattle.qn_index.specs.Tuples.{IsTuple, upward}
-use Rattle.qn_index.specs.Places.{IsValues, block_size, values_at, sectors_at, offset_at}
+use Rattle.qn_index.specs.Tuples.{upward}
+use Rattle.qn_index.specs.Places.{block_size, values_at}
 use Rattle.qn_index.specs.Extents.{size_of}
-use Rattle.qn_index.proofs.Places.{back, forth}
 use Rattle.qn_value.specs.Tensors.{same_values}
-use Rattle.qn_value.proofs.Values.{same_values-equal, both_ways}
+use Rattle.qn_value.proofs.Values.{same_values-equal}
 use Rattle.qn_block.specs.Combiners.{StartValue, start_at, starts_from, stands_at, values_in, values_with, tuples_with, fused_charges, fused_values}
-use Rattle.qn_block.proofs.Rows.{same_from, differ_from}
+use Rattle.qn_block.proofs.Rows.{same_from}
 use Rattle.qn_block.proofs.Partition.{values_long, size_more}
+use Rattle.qn_facts.proofs.Booleans.{same_tests}
 
 pub stands_left : (xs ys : List (List ℕ)) (k : ℕ) (vs : List ℕ) → k < length xs → stands_at (xs ++ ys) k vs ≡ stands_at xs k vs
 stands_left [] ys k vs lt = absurd (omega arith)
@@ -128,20 +128,6 @@ among ls ts ss i w e few lt low high =
 
 -- ---- whether values are those at an offset of a tuple's block
 
-pub other_tuple : (ls : List LegValue) (t : List ℕ) (k : ℕ) (vs : List ℕ) → IsTuple ls t → k < block_size ls t → t ≢ sectors_at ls vs → same_values (values_at ls t k) vs ≡ false
-other_tuple ls t k vs h lt n = differ_from (values_at ls t k) vs (λ e. n (sym (back ls t k h lt).sectors ∙ ap (sectors_at ls) e))
-
-pub same_tuple_at : (ls : List LegValue) (t : List ℕ) (k o : ℕ) (vs : List ℕ) → IsTuple ls t → k < block_size ls t → IsValues ls vs → t ≡ sectors_at ls vs → o ≡ offset_at ls vs → same_values (values_at ls t k) vs ≡ nat_eq k o
-same_tuple_at ls t k o vs h lt v e at = by (cases_eq k o)
-  where
-    by : (k ≡ o) ⊎ (k ≢ o) → same_values (values_at ls t k) vs ≡ nat_eq k o
-    by (inl s) =
-        same_from (values_at ls t k) vs (ap (λ u. values_at ls u k) e ∙ (ap (values_at ls (sectors_at ls vs)) (s ∙ at) ∙ (forth ls vs v).values))
-        ∙ sym (eq-eqb k o s)
-    by (inr n) =
-        differ_from (values_at ls t k) vs (λ s. n (sym (back ls t k h lt).offset ∙ (ap (offset_at ls) s ∙ sym at)))
-        ∙ sym (false_from_ne_true (nat_eq k o) (λ s. n (eqb-true k o s)))
-
 -- ---- the last tuple that begins at a value or before
 
 pub record IsLast (ss : List StartValue) (v r : ℕ) : Type 0 where
@@ -179,5 +165,5 @@ pub stands_same : (uss : List (List ℕ)) (w : ℕ) (us vs : List ℕ) → stand
 stands_same [] w us vs h = absurd (false≢true h)
 stands_same (xs ∷ uss) zero us vs h =
     let is : xs ≡ us = same_values-equal xs us h in
-    ap (λ ys. same_values ys vs) is ∙ both_ways (same_values us vs) (same_values vs us) (λ e. same_from vs us (sym (same_values-equal us vs e))) (λ e. same_from us vs (sym (same_values-equal vs us e)))
+    ap (λ ys. same_values ys vs) is ∙ same_tests (same_values us vs) (same_values vs us) (λ e. same_from vs us (sym (same_values-equal us vs e))) (λ e. same_from us vs (sym (same_values-equal vs us e)))
 stands_same (xs ∷ uss) (suc w) us vs h = stands_same uss w us vs h

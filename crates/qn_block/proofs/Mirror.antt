@@ -22,10 +22,11 @@ use Rattle.qn_index.specs.Extents.{entries, size_of}
 use Rattle.qn_index.specs.Weights.{remaining}
 use Rattle.qn_index.proofs.Nets.{tuple_length}
 use Rattle.qn_index.proofs.Places.{inner_length, inner_of_offset}
-use Rattle.qn_index.proofs.Admitted.{entries_step, total_over, mul_add, same_tests}
+use Rattle.qn_index.proofs.Admitted.{entries_step, total_over, mul_add}
 use Rattle.qn_block.specs.Blocked.{conjugate_legs, offsets_at}
 use Rattle.qn_block.proofs.Lookup.{values_length}
 use Rattle.qn_index.proofs.Admitted.{total_same}
+use Rattle.qn_facts.proofs.Booleans.{same_tests}
 
 -- ---- lists backwards
 
@@ -387,9 +388,6 @@ mirror_more ls t i p found left d l sound h lt is e m =
     block_left [] t (suc i) h v = omega arith
     block_left (k ∷ ls) [] (suc i) h v = absurd v
     block_left (k ∷ ls) (x ∷ t) (suc i) h v = block_left ls t i (λ j d m. h (suc j) d (omega arith)) v.1
-
-pub mirror_start : (ls : List LegValue) (t : List ℕ) (p : ℕ) → IsMirroring ls t 0 p 0 p
-mirror_start ls t p = record { same = refl; below = omega arith }
 
 pub mirror_end : (ls : List LegValue) (t : List ℕ) (i p found left : ℕ) → i ≡ length ls → IsMirroring ls t i p found left → (found ≡ mirrored ls t p 0) × (found < block_size ls t)
 mirror_end ls t i p found left e m =

@@ -1,7 +1,6 @@
 -- Odd values of inward legs, and values backwards.
-use Rattle.std.proofs.Common.{◌≡◌, ℕ, zero, suc, ◌-◌, ◌≤◌, ◌<◌, ◌&&◌, Bool, false, List, [], ◌∷◌, length, get_or, drop, reverse, arith, refl, ap, ◌∙◌, sym, subst}
+use Rattle.std.proofs.Common.{◌≡◌, ℕ, zero, suc, ◌-◌, ◌<◌, ◌&&◌, Bool, List, [], ◌∷◌, length, get_or, drop, reverse, arith, refl, ap, ◌∙◌, sym, subst}
 use Rattle.std.proofs.lemmas.List.{get_or-reverse}
-use Rattle.std.proofs.Math.ListN.{drop_of_length-le}
 use Rattle.qn_charge.specs.declared.factor.Factor.{Factor}
 use Rattle.qn_charge.specs.Charges.{xor}
 use Rattle.qn_index.specs.Legs.{LegValue, parity_at, total}
@@ -38,9 +37,6 @@ odd_back fs ls vs i l v b h pos lt is at e =
           ∙ (ap (λ k. xor (is_odd_inward fs (get_or ls (i - 1) l) k) (odd_inward fs (drop (suc (i - 1)) ls) (drop (suc (i - 1)) vs))) at
           ∙ sym (odd_suc fs ls vs (i - 1) l lt n))));
     }
-
-pub odd_none : (fs : List Factor) (ls : List LegValue) (vs : List ℕ) (i : ℕ) → length ls ≤ i → false ≡ odd_inward fs (drop i ls) (drop i vs)
-odd_none fs ls vs i le = sym (ap (λ ks. odd_inward fs ks (drop i vs)) (drop_of_length-le ls le))
 
 pub backwards_at : (xs : List ℕ) (i : ℕ) → i < length xs → get_or (reverse xs) i 0 ≡ get_or xs (length xs - 1 - i) 0
 backwards_at xs i lt = get_or-reverse xs i 0 lt

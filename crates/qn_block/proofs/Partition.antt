@@ -3,7 +3,7 @@ use Rattle.std.proofs.Common.{Contains, ◌≡◌, ℕ, ℤ, zero, suc, ◌+◌,
 use Rattle.std.specs.List.{All}
 use Rattle.std.specs.Cmp.Lexicographic.{slice_cmp, pointwise}
 use Rattle.std.specs.Cmp.{IsTotalOrder}
-use Rattle.std.specs.Ordering.{int_cmp, int_eq, ordering_reverse, ordering_then}
+use Rattle.std.specs.Ordering.{int_cmp, int_eq, ordering_reverse}
 use Rattle.std.specs.Cmp.Rules.{signed_items}
 use Rattle.std.specs.declared.cmp.Ordering.{Ordering}
 use Rattle.std.specs.declared.cmp.Ordering.TheVariants.{Less, Equal, Greater}
@@ -22,32 +22,26 @@ use Rattle.qn_index.specs.Places.{block_size, values_at}
 use Rattle.qn_index.specs.Extents.{size_of}
 use Rattle.qn_charge.specs.Charges.{IsGroup, IsCanonical, neg_charge}
 use Rattle.qn_charge.specs.Laws.{neg_of_neg}
-use Rattle.qn_index.proofs.Admitted.{mul_add, same_tests, net_canonical}
+use Rattle.qn_index.proofs.Admitted.{mul_add, net_canonical}
 use Rattle.qn_block.specs.Combiners.{fused_charge, fused_charges, put_by, put, ascending_once, tuples_with, values_in, sector_with, fused_sectors, number_of_values, starts_from}
 use Rattle.qn_index.proofs.Admitted.{size_append}
 use Rattle.qn_index.proofs.Admitted.{size_first}
+use Rattle.qn_facts.proofs.Booleans.{same_tests}
+use Rattle.qn_facts.proofs.Orderings.{both_equal}
 
 -- ---- charges ascend, and so each stands once
-
-charge_cmp : List ℤ → List ℤ → Ordering
-charge_cmp = slice_cmp int_cmp
 
 -- each charge is before all later ones
 abbrev pub Ascends : List (List ℤ) → Type 0
 Ascends [] = Unit {0}
 Ascends (c ∷ cs) = All (λ d. slice_cmp int_cmp c d ≡ Less) cs × Ascends cs
 
-both_tie : (o p : Ordering) → ordering_then o p ≡ Equal → (o ≡ Equal) × (p ≡ Equal)
-both_tie Less p e = absurd (cc e)
-both_tie Equal p e = (refl, e)
-both_tie Greater p e = absurd (cc e)
-
 pub same_charges : (c d : List ℤ) → slice_cmp int_cmp c d ≡ Equal → c ≡ d
 same_charges [] [] e = refl
 same_charges [] (y ∷ d) e = absurd (cc e)
 same_charges (x ∷ c) [] e = absurd (cc e)
 same_charges (x ∷ c) (y ∷ d) e =
-    let b = both_tie (int_cmp x y) (slice_cmp int_cmp c d) e in
+    let b = both_equal (int_cmp x y) (slice_cmp int_cmp c d) e in
     let first : x ≡ y = int_ranked x y Equal (sym b.0) in
     let rest : c ≡ d = same_charges c d b.1 in
     cc

@@ -15,7 +15,7 @@ use Rattle.qn_index.specs.Places.{IsValues, sectors_at}
 use Rattle.qn_index.proofs.Admitted.{net_canonical}
 use Rattle.qn_index.proofs.Places.{forth}
 use Rattle.qn_value.specs.Tensors.{Row, IsTensor, IsRow, IsNew, AreDistinct, same_values, entry_at, entry_of}
-use Rattle.qn_value.proofs.Values.{same_values-equal, both_ways}
+use Rattle.qn_value.proofs.Values.{same_values-equal}
 use Rattle.qn_block.specs.Blocked.{conjugate_legs}
 use Rattle.qn_block.specs.Combiners.{CombinerValue, IsCombiner, fused_sectors, fused_leg, fused_values, stands_at}
 use Rattle.qn_block.specs.Tables.{is_inward, odd_inward, matching, fuse_legs, fuse_entry, split_legs, split_entry, split_entry_backwards, numbered, fuse_row, split_row, fuse_tensor, split_tensor, IsMatching}
@@ -24,6 +24,7 @@ use Rattle.qn_block.proofs.Lookup.{values_length, sectors_length}
 use Rattle.qn_block.proofs.Mirror.{conjugate_all, conjugate_net, conjugate_values, conjugate_sectors, net_snoc, sectors_snoc, values_snoc, signed_flipped}
 use Rattle.qn_block.proofs.Matching.{stands_same}
 use Rattle.qn_block.proofs.Located.{turned_twice, turned_canonical, matched, match_one, match_some, match_charge, stands_below, values_total}
+use Rattle.qn_facts.proofs.Booleans.{same_tests}
 
 -- ---- rows that are numbered
 
@@ -89,7 +90,7 @@ back_equal us vs e = sym (reverse-reverse us) ∙ ap reverse e
 
 same_back : (us vs : List ℕ) → same_values (reverse us) vs ≡ same_values us (reverse vs)
 same_back us vs =
-    both_ways (same_values (reverse us) vs) (same_values us (reverse vs))
+    same_tests (same_values (reverse us) vs) (same_values us (reverse vs))
     (λ e. same_from us (reverse vs) (back_equal us vs (same_values-equal (reverse us) vs e)))
     (λ e. same_from (reverse us) vs (sym (back_equal vs us (sym (same_values-equal us (reverse vs) e)))))
 
@@ -108,7 +109,7 @@ first_same x y us vs e = (cc, cc)
 
 same_last : (us xs : List ℕ) (x w : ℕ) (vs : List ℕ) → reverse xs ≡ w ∷ vs → same_values (us ++ (x ∷ [])) xs ≡ (x == w) && same_values us (reverse vs)
 same_last us xs x w vs e =
-    both_ways (same_values (us ++ (x ∷ [])) xs) ((x == w) && same_values us (reverse vs))
+    same_tests (same_values (us ++ (x ∷ [])) xs) ((x == w) && same_values us (reverse vs))
     (λ s.
     let p = first_same x w (reverse us) vs (sym (last_of us x) ∙ (ap reverse (same_values-equal (us ++ (x ∷ [])) xs s) ∙ e)) in
     ap₂ ◌&&◌ (eq-eqb x w p.0) (same_from us (reverse vs) (back_equal us vs p.1)))

@@ -6,8 +6,7 @@ use Rattle.std.specs.Ordering.{nat_cmp}
 use Rattle.std.specs.declared.cmp.Ordering.TheVariants.{Less}
 use Rattle.std.proofs.Math.Nat.{mul-div_cancel_left}
 use Rattle.std.proofs.lemmas.Bool.{cases_lt}
-use Rattle.std.proofs.lemmas.List.{get_or_default, get_or_append_left, length-set, take_more_set, take_all, append-nil}
-use Rattle.std.proofs.Math.ListN.{drop_of_length-le}
+use Rattle.std.proofs.lemmas.List.{get_or_default, get_or_append_left, length-set, take_more_set}
 use Rattle.std.proofs.Math.Seq.{get_or-append_right}
 use Rattle.qn_charge.specs.declared.factor.Factor.{Factor}
 use Rattle.qn_gauss.specs.Gaussian.{Gaussian, zero_g}
@@ -78,12 +77,6 @@ written_more ls t i o s r d v l h lt is e m =
       inner = subst (λ k. r / k < d) (sym q) b.1;
       next = λ x f. subst (λ k. IsWritten ls t (i + 1) o k (r % k) (set v i x)) (sym q) (made x (f ∙ ap (λ k. first + r / k) q));
     }
-
-pub written_all : (ls : List LegValue) (t : List ℕ) (i o s r : ℕ) (v : List ℕ) → i ≡ length ls → IsWritten ls t i o s r v → v ≡ values_at ls t o
-written_all ls t i o s r v e m =
-    let none : drop i ls ≡ [] = drop_of_length-le ls (omega arith) in
-    sym (take_all i v (omega (arith, m.long)))
-    ∙ (sym (append-nil (take i v)) ∙ (ap (λ ks. take i v ++ values_at ks (drop i t) r) (sym none) ∙ m.values))
 
 -- ---- tuples that meet the flux
 

@@ -11,7 +11,7 @@ ghost use Rattle.qn_block.specs.FuseFaults.{IsRangeFault};
 
 use crate::fault::FuseFault;
 use qn_charge::{Abelian, Charge, Group};
-use qn_index::{Dir, Leg, known_all, net_charge};
+use qn_index::{Dir, Leg, MAX_SECTORS, known_all, net_charge};
 use std::alloc::{AllocError, Global};
 use std::cmp::Ordering;
 
@@ -125,7 +125,8 @@ fn charge_of<const K: usize>(
 
 /// Where a charge belongs among ascending charges, and None where it is there.
 fn place_of<const K: usize>(charges: &[Charge<K>], charge: &Charge<K>) -> Option<usize>
-    ensures { MatchOption result (put charge.now charges.now ≡ charges.now) (λ i. (i ≤ length charges.now) × (put charge.now charges.now ≡ insert charges.now i charge.now)) }
+    ensures { MatchOption result (put charge.now charges.now ≡ charges.now) (λ i.
+        (i ≤ length charges.now) × (put charge.now charges.now ≡ insert charges.now i charge.now)) }
 {
     for i in 0..charges.len() {
         match charge.compare(&charges[i]) {
@@ -170,7 +171,7 @@ pub(crate) fn fused_charges<const K: usize>(
     for n in (0..total).rev() {
         let charge = charge_of(group, legs, dir, total, n, &mut tuple);
         put_charge(&mut charges, &charge)?;
-        if charges.len() > 64 {
+        if charges.len() > MAX_SECTORS {
             return Err(FuseFault::FusedRange);
         }
     }

@@ -1,3 +1,5 @@
+//! What is wrong with given blocks, first in order.
+
 ghost use Rattle.std.specs.Prelude.{◌≡◌, ◌<◌, ◌≤◌, ◌^◌, ◌↔◌, ℕ, length, IfErr, OnOk, IsTrue, MatchOption};
 ghost use Rattle.std.specs.List.{All};
 ghost use Rattle.qn_charge.specs.Firsts.{IsFirst, HasNone};
@@ -10,7 +12,7 @@ ghost use Rattle.qn_block.specs.Refusals.{block_at, BadTupleAt, OffFluxAt, NotAs
 use crate::fault::BlockFault;
 use crate::tensor::Block;
 use qn_charge::{Charge, Group};
-use qn_index::{Leg, MAX_ENTRIES, MAX_TUPLES, block_len, net_charge, width};
+use qn_index::{Leg, MAX_ENTRIES, MAX_LEGS, MAX_TUPLES, block_len, net_charge, width};
 use std::alloc::Global;
 use std::cmp::Ordering;
 
@@ -26,7 +28,7 @@ pub(crate) fn check_shape<const K: usize>(
     ensures ok { OnOk result (IsWithinLimits group.now legs.now flux.now) }
     ensures err { IfErr result (IsShapeFault group.now legs.now flux.now) }
 {
-    if legs.len() > 64 {
+    if legs.len() > MAX_LEGS {
         return Err(BlockFault::TooManyLegs);
     }
     let extent = width(alloc, group, legs, flux)?;
@@ -82,7 +84,8 @@ pub(crate) fn first_off_flux<const K: usize>(
     requires few { length legs.now ≤ 64 }
     requires group { All (IsLegOf group.now) legs.now }
     requires tuples { HasNone (BadTupleAt legs.now blocks.now) }
-    ensures { MatchOption result (HasNone (OffFluxAt group.now legs.now flux.now blocks.now)) (IsFirst (OffFluxAt group.now legs.now flux.now blocks.now)) }
+    ensures { MatchOption result (HasNone (OffFluxAt group.now legs.now flux.now blocks.now)) (
+        IsFirst (OffFluxAt group.now legs.now flux.now blocks.now)) }
 {
     for (block, b) in blocks.iter().enumerate() {
         if !net_charge(group, legs, b.tuple()).same(flux) {

@@ -1,3 +1,5 @@
+//! Fusing legs: the combiner of some legs, the fused leg, and which block of it stands where.
+
 ghost use Rattle.std.specs.Prelude.{◌≡◌, ◌<◌, ◌≤◌, ◌^◌, length, IfOk, IfErr};
 ghost use Rattle.std.specs.List.{All};
 ghost use Rattle.qn_index.specs.Legs.{IsLegOf};
@@ -32,7 +34,10 @@ impl<const K: usize> Model for Combiner<K> {
 
     ghost view = { λ c. record { group = c.group; legs = c.legs.items; arrow = c.fused.arrow } };
 
-    ghost invariant = { λ c. IsCombiner (record { group = c.group; legs = c.legs.items; arrow = c.fused.arrow }) × (c.fused ≡ fused_leg c.group c.legs.items c.fused.arrow) × (c.starts.items ≡ fused_starts c.group c.legs.items c.fused.arrow) × IsIndex c.legs.items (fused_starts c.group c.legs.items c.fused.arrow) c.index.items };
+    ghost invariant = { λ c. IsCombiner (record { group = c.group; legs = c.legs.items; arrow = c.fused.arrow }) ×
+        (c.fused ≡ fused_leg c.group c.legs.items c.fused.arrow) ×
+        (c.starts.items ≡ fused_starts c.group c.legs.items c.fused.arrow) ×
+        IsIndex c.legs.items (fused_starts c.group c.legs.items c.fused.arrow) c.index.items };
 }
 
 impl<const K: usize> Combiner<K> {

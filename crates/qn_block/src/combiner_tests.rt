@@ -1,3 +1,5 @@
+//! Fused legs, their limits, and tables of combiners.
+
 use crate::tests::{FERMION, Row, Sectors, entry_of, legs_of, number};
 use crate::{BlockFault, BlockTensor, Combiner, FuseFault};
 use qn_charge::{Charge, Group};

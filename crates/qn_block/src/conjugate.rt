@@ -1,3 +1,5 @@
+//! The conjugate of a tensor: legs in reverse order, arrows turned, entries conjugated.
+
 ghost use Rattle.std.specs.Prelude.{◌≡◌, ◌<◌, ◌≤◌, ◌^◌, ℕ, List, length, reverse, IfOk};
 ghost use Rattle.std.specs.List.Sorted.{IsPermutation};
 ghost use Rattle.qn_index.specs.Tuples.{IsTuple};
@@ -40,7 +42,9 @@ fn mirrored_place<const K: usize>(legs: &[Leg<K>], tuple: &[u32], place: u64) ->
     requires tuple { IsTuple legs.now tuple.now }
     requires small { block_size legs.now tuple.now ≤ 2 ^ 22 }
     ensures below { result < block_size legs.now tuple.now }
-    ensures place { (os : List ℕ) → IsInner legs.now tuple.now os → place ≡ offset_of (conjugate_legs legs.now) (reverse tuple.now) (reverse os) → result ≡ offset_of legs.now tuple.now os }
+    ensures place { (os : List ℕ) → IsInner legs.now tuple.now os →
+        place ≡ offset_of (conjugate_legs legs.now) (reverse tuple.now) (reverse os) →
+        result ≡ offset_of legs.now tuple.now os }
 {
     known_all(legs);
     let mut found = 0u64;
@@ -85,7 +89,8 @@ fn conjugate_blocks<const K: usize>(
 ) -> Result<Vec<Block>, AllocError>
     requires blocks { (k : ℕ) → k < length blocks.now → IsWhole legs.now (block_at blocks.now k) }
     ensures count { IfOk result (λ v. length v.items ≡ length blocks.now) }
-    ensures blocks { IfOk result (λ v. (k : ℕ) → k < length blocks.now → IsConjugateBlock legs.now (block_at blocks.now k) (block_at v.items k)) }
+    ensures blocks { IfOk result (λ v.
+        (k : ℕ) → k < length blocks.now → IsConjugateBlock legs.now (block_at blocks.now k) (block_at v.items k)) }
 {
     let mut conjugates = Vec::with_capacity(alloc, blocks.len())?;
     for block in blocks {

@@ -1,3 +1,5 @@
+//! Copies of a tensor, and its canonical form, without blocks of zeros.
+
 ghost use Rattle.std.specs.Prelude.{◌≡◌, List, ℕ, IfOk, not, filter};
 ghost use Rattle.std.specs.List.{list_any};
 ghost use Rattle.qn_value.specs.Tensors.{entry_of};
@@ -5,22 +7,8 @@ ghost use Rattle.qn_block.specs.Blocked.{tensor_of, is_filled, is_zero};
 
 use crate::tensor::{Block, BlockTensor};
 use qn_gauss::Gauss;
-use qn_index::Leg;
+use qn_index::copy_legs;
 use std::alloc::{AllocError, Global};
-
-/// Equal legs.
-pub(crate) fn copy_legs<const K: usize>(
-    alloc: Global,
-    legs: &[Leg<K>],
-) -> Result<Vec<Leg<K>>, AllocError>
-    ensures { IfOk result (λ v. v.items ≡ legs.now) }
-{
-    let mut copies = Vec::with_capacity(alloc, legs.len())?;
-    for leg in legs {
-        copies.push(leg.copy()?)?;
-    }
-    Ok(copies)
-}
 
 /// Equal blocks.
 fn copy_blocks(alloc: Global, blocks: &[Block]) -> Result<Vec<Block>, AllocError>
@@ -75,7 +63,8 @@ impl<const K: usize> BlockTensor<K> {
 
     /// The same tensor without the blocks that are all zeros. Nothing is copied.
     pub fn canonical(self) -> BlockTensor<K>
-        ensures blocks { result ≡ record { group = self.entry.group; legs = self.entry.legs; flux = self.entry.flux; blocks = filter is_filled self.entry.blocks } }
+        ensures blocks { result ≡
+            record { group = self.entry.group; legs = self.entry.legs; flux = self.entry.flux; blocks = filter is_filled self.entry.blocks } }
         ensures entries { (xs : List ℕ) → entry_of (tensor_of result) xs ≡ entry_of (tensor_of self.entry) xs }
     {
         let (group, legs, flux, mut blocks) = self.into_parts();

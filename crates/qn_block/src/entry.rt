@@ -1,3 +1,5 @@
+//! The entry of a tensor at a value for each leg.
+
 ghost use Rattle.std.specs.Prelude.{◌≡◌, ◌≢◌, ◌<◌, ◌≤◌, ◌^◌, ◌↔◌, ℕ, length, take, IsTrue, MatchOption, Contains};
 ghost use Rattle.qn_index.specs.Places.{IsValues, sectors_at};
 ghost use Rattle.qn_value.specs.Tensors.{entry_of, AreAscending};
@@ -11,7 +13,8 @@ use qn_index::{Leg, offset_of};
 /// Where the block of this tuple stands.
 fn find(blocks: &[Block], tuple: &[u32]) -> Option<usize>
     requires { AreAscending blocks.now }
-    ensures { MatchOption result ((i : ℕ) → i < length blocks.now → (block_at blocks.now i).tuple ≢ tuple.now) (λ i. (i < length blocks.now) × ((block_at blocks.now i).tuple ≡ tuple.now)) }
+    ensures { MatchOption result ((i : ℕ) → i < length blocks.now → (block_at blocks.now i).tuple ≢ tuple.now) (λ i.
+        (i < length blocks.now) × ((block_at blocks.now i).tuple ≡ tuple.now)) }
 {
     match blocks.binary_search_by(|b| b.compare(tuple)) {
         Ok(i) => Some(i),

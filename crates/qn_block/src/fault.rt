@@ -1,3 +1,5 @@
+//! Why blocks are no tensor, and why legs can't be fused.
+
 use std::alloc::{AllocError, AllocFailed};
 use thiserror::Error;
 

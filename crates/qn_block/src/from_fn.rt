@@ -1,3 +1,5 @@
+//! A tensor with its entries from a function.
+
 ghost use Rattle.std.specs.Prelude.{◌≡◌, ◌<◌, ◌≤◌, ◌^◌, ℕ, List, length, IfOk, IfErr, slice_index_or};
 ghost use Rattle.std.specs.Fn.{FnReturnsAt};
 ghost use Rattle.std.specs.List.{All};
@@ -54,7 +56,9 @@ fn block_of<const K: usize, F: Fn(&[u32]) -> Gauss>(
     requires callable { (x : _) (o : ℕ) → o < block_size legs.now tuple.now → x.now ≡ values_at legs.now tuple.now o → F.pre f.now x }
     ensures tuple { IfOk result (λ b. b.tuple ≡ tuple.now) }
     ensures full { IfOk result (λ b. length b.entries ≡ block_size legs.now tuple.now) }
-    ensures answers { IfOk result (λ b. (o : ℕ) → o < block_size legs.now tuple.now → FnReturnsAt F.Fn f.now (values_at legs.now tuple.now o) (slice_index_or b.entries o zero_g)) }
+    ensures answers { IfOk result (λ b.
+        (o : ℕ) → o < block_size legs.now tuple.now →
+        FnReturnsAt F.Fn f.now (values_at legs.now tuple.now o) (slice_index_or b.entries o zero_g)) }
 {
     let size = block_len(legs, tuple.as_slice());
     let mut entries = Vec::with_capacity(alloc, size as usize)?;
@@ -83,7 +87,9 @@ pub(crate) fn blocks_from<const K: usize, F: Fn(&[u32]) -> Gauss>(
     requires callable { (x : _) → MeetFlux group.now legs.now flux.now x.now → F.pre f.now x }
     ensures blocks { IfOk result (λ bs. All (IsBlock group.now legs.now flux.now) bs.items) }
     ensures ascending { IfOk result (λ bs. AreAscending bs.items) }
-    ensures answers { IfOk result (λ bs. (xs : List ℕ) → MeetFlux group.now legs.now flux.now xs → FnReturnsAt F.Fn f.now xs (entry_in legs.now bs.items xs)) }
+    ensures answers { IfOk result (λ bs.
+        (xs : List ℕ) → MeetFlux group.now legs.now flux.now xs →
+        FnReturnsAt F.Fn f.now xs (entry_in legs.now bs.items xs)) }
 {
     let tuples = admissible(alloc, group, legs, flux)?;
     let mut blocks = Vec::with_capacity(alloc, tuples.len())?;
@@ -108,7 +114,8 @@ pub(crate) fn tensor_from<const K: usize, F: Fn(&[u32]) -> Gauss>(
     ensures group { IfOk result (λ t. t.group ≡ group.entry) }
     ensures legs { IfOk result (λ t. t.legs ≡ legs.entry.items) }
     ensures flux { IfOk result (λ t. t.flux ≡ flux.entry) }
-    ensures entries { IfOk result (λ t. (xs : List ℕ) → MeetFlux t.group t.legs t.flux xs → FnReturnsAt F.Fn f.now xs (entry_of (tensor_of t) xs)) }
+    ensures entries { IfOk result (λ t.
+        (xs : List ℕ) → MeetFlux t.group t.legs t.flux xs → FnReturnsAt F.Fn f.now xs (entry_of (tensor_of t) xs)) }
 {
     let blocks = blocks_from(alloc, &group, &legs, &flux, f)?;
     Ok(BlockTensor::of_blocks(group, legs, flux, blocks))

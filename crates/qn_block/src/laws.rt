@@ -15,9 +15,11 @@ ghost use Rattle.qn_block.specs.Tables.{fuse_tensor, fuse_entry, split_tensor, s
 /// flux its entries are 0.
 pub fn entries_of_blocks()
     ensures tensor { (t : BlockedValue) → IsBlocked t → IsTensor (tensor_of t) }
-    ensures by_blocks { (t : BlockedValue) (xs : List ℕ) → IsBlocked t → IsValues t.legs xs → entry_of (tensor_of t) xs ≡ entry_in t.legs t.blocks xs }
+    ensures by_blocks { (t : BlockedValue) (xs : List ℕ) → IsBlocked t → IsValues t.legs xs →
+        entry_of (tensor_of t) xs ≡ entry_in t.legs t.blocks xs }
     ensures out_of_range { (t : BlockedValue) (xs : List ℕ) → IsBlocked t → (IsValues t.legs xs → ⊥) → entry_of (tensor_of t) xs ≡ zero_g }
-    ensures off_flux { (t : BlockedValue) (xs : List ℕ) → IsBlocked t → IsValues t.legs xs → net t.group t.legs (sectors_at t.legs xs) ≢ t.flux → entry_of (tensor_of t) xs ≡ zero_g }
+    ensures off_flux { (t : BlockedValue) (xs : List ℕ) → IsBlocked t → IsValues t.legs xs →
+        net t.group t.legs (sectors_at t.legs xs) ≢ t.flux → entry_of (tensor_of t) xs ≡ zero_g }
 {}
 
 /// Both tables of a combiner are tensors: their entries conserve charge with flux zero. The fuse

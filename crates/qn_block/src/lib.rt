@@ -1,4 +1,7 @@
 //! Tensors that conserve charge, held in blocks.
+//!
+//! For every crate that has tensors. It hands on `BlockTensor`, made from blocks or from a function, read at values,
+//! conjugated and copied, and `Combiner`, which fuses legs.
 #![tactic(auto)]
 
 mod charges;

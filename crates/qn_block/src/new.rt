@@ -1,3 +1,5 @@
+//! A tensor from its blocks, checked.
+
 ghost use Rattle.std.specs.Prelude.{◌≡◌, List, ℕ, IfOk, IfErr, OnOk};
 ghost use Rattle.std.specs.Fn.{FnReturnsAt};
 ghost use Rattle.std.specs.List.{All};
@@ -62,7 +64,8 @@ impl<const K: usize> BlockTensor<K> {
     ) -> Result<BlockTensor<K>, BlockFault>
         requires group { All (IsLegOf group) legs.items }
         requires flux { IsFlux group flux }
-        ensures ok { IfOk result (λ t. t ≡ record { group = group.entry; legs = legs.entry.items; flux = flux.entry; blocks = blocks.items }) }
+        ensures ok { IfOk result (λ t.
+            t ≡ record { group = group.entry; legs = legs.entry.items; flux = flux.entry; blocks = blocks.items }) }
         ensures err { IfErr result (IsBlockFault group.entry legs.entry.items flux.entry blocks.items) }
     {
         check_shape(alloc, &group, &legs, &flux)?;
@@ -85,7 +88,9 @@ impl<const K: usize> BlockTensor<K> {
         ensures group { IfOk result (λ t. t.group ≡ group.entry) }
         ensures legs { IfOk result (λ t. t.legs ≡ legs.entry.items) }
         ensures flux { IfOk result (λ t. t.flux ≡ flux.entry) }
-        ensures entries { IfOk result (λ t. (xs : List ℕ) → MeetFlux t.group t.legs t.flux xs → FnReturnsAt F.Fn f.now xs (entry_of (tensor_of t) xs)) }
+        ensures entries { IfOk result (λ t.
+            (xs : List ℕ) → MeetFlux t.group t.legs t.flux xs →
+            FnReturnsAt F.Fn f.now xs (entry_of (tensor_of t) xs)) }
         ensures err { IfErr result (IsShapeFault group.entry legs.entry.items flux.entry) }
     {
         check_shape(alloc, &group, &legs, &flux)?;

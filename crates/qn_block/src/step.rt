@@ -1,3 +1,5 @@
+//! Why a step of a contraction stops.
+
 use qn_index::Tuple;
 use std::alloc::{AllocError, AllocFailed};
 use thiserror::Error;

@@ -11,14 +11,13 @@ ghost use Rattle.qn_block.specs.Tables.{fuse_legs, fuse_entry, split_legs, split
 use crate::checks::check_shape;
 use crate::combiner::Combiner;
 use crate::conjugate::conjugate_legs;
-use crate::copies::copy_legs;
 use crate::fault::BlockFault;
 use crate::from_fn::tensor_from;
 use crate::tensor::BlockTensor;
 use crate::values::{backwards, is_odd_inward, odd_inward, same_values};
 use qn_charge::Abelian;
 use qn_gauss::Gauss;
-use qn_index::Leg;
+use qn_index::{Leg, copy_legs};
 use std::alloc::AllocError;
 
 /// The entry of a table: 1 where the values match, or -1, and else 0.
@@ -88,8 +87,12 @@ impl<const K: usize> Combiner<K> {
 
     /// Whether the fuse table is within the limits of a shape, or which limit it breaks first.
     pub fn check_fuse_table(&self) -> Result<(), BlockFault>
-        ensures ok { OnOk result (IsWithinLimits self.now.group (fuse_legs self.now.group self.now.legs self.now.arrow) (zero_charge self.now.group)) }
-        ensures err { IfErr result (IsShapeFault self.now.group (fuse_legs self.now.group self.now.legs self.now.arrow) (zero_charge self.now.group)) }
+        ensures ok { OnOk result (
+            IsWithinLimits self.now.group (fuse_legs self.now.group self.now.legs self.now.arrow) (
+            zero_charge self.now.group)) }
+        ensures err { IfErr result (
+            IsShapeFault self.now.group (fuse_legs self.now.group self.now.legs self.now.arrow) (
+            zero_charge self.now.group)) }
     {
         self.known();
         let legs = self.fuse_legs()?;
@@ -100,7 +103,8 @@ impl<const K: usize> Combiner<K> {
     /// The fuse table: a tensor of the fused leg and the flipped legs, last first. Contracted with a
     /// tensor over all flipped legs it puts the fused leg in their place. The table may not be too wide.
     pub fn fuse_table(&self) -> Result<BlockTensor<K>, AllocError>
-        requires shape { IsWithinLimits self.now.group (fuse_legs self.now.group self.now.legs self.now.arrow) (zero_charge self.now.group) }
+        requires shape { IsWithinLimits self.now.group (fuse_legs self.now.group self.now.legs self.now.arrow) (
+            zero_charge self.now.group) }
         ensures group { IfOk result (λ t. t.group ≡ self.now.group) }
         ensures legs { IfOk result (λ t. t.legs ≡ fuse_legs self.now.group self.now.legs self.now.arrow) }
         ensures flux { IfOk result (λ t. t.flux ≡ zero_charge self.now.group) }
@@ -120,8 +124,12 @@ impl<const K: usize> Combiner<K> {
 
     /// Whether the split table is within the limits of a shape, or which limit it breaks first.
     pub fn check_split_table(&self) -> Result<(), BlockFault>
-        ensures ok { OnOk result (IsWithinLimits self.now.group (split_legs self.now.group self.now.legs self.now.arrow) (zero_charge self.now.group)) }
-        ensures err { IfErr result (IsShapeFault self.now.group (split_legs self.now.group self.now.legs self.now.arrow) (zero_charge self.now.group)) }
+        ensures ok { OnOk result (
+            IsWithinLimits self.now.group (split_legs self.now.group self.now.legs self.now.arrow) (
+            zero_charge self.now.group)) }
+        ensures err { IfErr result (
+            IsShapeFault self.now.group (split_legs self.now.group self.now.legs self.now.arrow) (
+            zero_charge self.now.group)) }
     {
         self.known();
         let legs = self.split_legs()?;
@@ -132,7 +140,8 @@ impl<const K: usize> Combiner<K> {
     /// The split table: a tensor of the legs and the flipped fused leg. Contracted with a tensor over
     /// the fused leg it puts the legs in its place. The table may not be too wide.
     pub fn split_table(&self) -> Result<BlockTensor<K>, AllocError>
-        requires shape { IsWithinLimits self.now.group (split_legs self.now.group self.now.legs self.now.arrow) (zero_charge self.now.group) }
+        requires shape { IsWithinLimits self.now.group (split_legs self.now.group self.now.legs self.now.arrow) (
+            zero_charge self.now.group) }
         ensures group { IfOk result (λ t. t.group ≡ self.now.group) }
         ensures legs { IfOk result (λ t. t.legs ≡ split_legs self.now.group self.now.legs self.now.arrow) }
         ensures flux { IfOk result (λ t. t.flux ≡ zero_charge self.now.group) }

@@ -1,3 +1,5 @@
+//! Blocks and shapes at fault, and entries of tensors.
+
 ghost use Rattle.std.specs.Prelude.{◌≡◌, ◌≤◌, ◌^◌, length, IfOk};
 ghost use Rattle.std.specs.List.{All};
 ghost use Rattle.qn_index.specs.Legs.{IsLegOf};

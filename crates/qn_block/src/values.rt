@@ -21,7 +21,9 @@ impl<const K: usize> Combiner<K> {
     /// each leg. Takes no memory.
     pub fn values_of(&self, value: u32) -> [u32; 64]
         requires { value < total (fused_sectors self.now.group self.now.legs self.now.arrow) }
-        ensures { stands_at (fused_values self.now.group self.now.legs self.now.arrow) value (take (length self.now.legs) result) ≡ true }
+        ensures { stands_at (fused_values self.now.group self.now.legs self.now.arrow) value (
+            take (length self.now.legs) result) ≡
+            true }
     {
         self.known();
         let legs = self.legs();

@@ -14,17 +14,11 @@ once_below_next x n = grind (arith, nat_tests)
 pub in_one : (x t : ℕ) → IsIn x (t ∷ []) → t ≡ x
 in_one x t h = grind (arith, nat_tests)
 
-pub one_in : (t : ℕ) → IsIn t (t ∷ [])
-one_in t = grind (arith, nat_tests)
-
 pub in_first : (x : ℕ) (xs : List ℕ) → IsIn x (x ∷ xs)
 in_first x xs = let h = eq-eqb x x refl in grind (arith, nat_tests)
 
 pub below_of : (x n : ℕ) → 0 < once_below x n → x < n
 below_of x n h = grind (arith, nat_tests)
-
-pub below_once : (x n : ℕ) → x < n → once_below x n ≡ 1
-below_once x n h = grind (arith, nat_tests)
 
 pub least_of_le : (xs : List ℕ) → least_of xs ≤ greatest
 least_of_le [] = omega arith

@@ -1,4 +1,5 @@
-// The board that threads share, and the seats that they step on it with.
+//! The board that threads share, and the seats that they step on it with.
+
 ghost use Rattle.std.specs.Prelude.{◌≡◌, ℕ, ◌+◌, ◌-◌, ◌≤◌, ◌<◌, ◌^◌, ◌++◌, ◌↔◌, [], ◌∷◌, IfOk, IfSome, IfNone, IsNone, MatchOption, unwrap_or, min};
 ghost use Rattle.qn_board.specs.Lists.{IsIn, IsLeast, IsEachBelow, occurrences, once_below, greatest};
 ghost use Rattle.qn_board.specs.Machine.{first_seat, seat_left, seat_given, seat_joined};
@@ -13,8 +14,8 @@ use atomic_table::Table;
 use std::alloc::{AllocError, Global};
 use std::marker::{Brand, Model};
 
-/// A seat of a board: what lets a thread step on it. It has no bytes; contracts see its board, and its state as that of a
-/// seat of the task machine.
+/// A seat of a board: what lets a thread step on it. It has no bytes; contracts see its board, and its state as that of
+/// a seat of the task machine.
 #[derive(Drop)]
 pub struct Seat {
     token: atomic_table::Seat<(), View>,
@@ -70,8 +71,8 @@ impl Board {
         Ok((Board { table, n }, Seat { token }))
     }
 
-    /// Draws the next task, or none where none is left: a task joins the seat's drawn numbers, and without one a unit of
-    /// weight is spent. It takes no memory and never waits.
+    /// Draws the next task, or none where none is left: a task joins the seat's drawn numbers, and without one a unit
+    /// of weight is spent. It takes no memory and never waits.
     pub fn draw(&self, seat: &mut Seat) -> Option<u64>
         requires here { seat.old.board ≡ self.now }
         requires unspent { seat.old.state.spent < seat.old.state.weight }
@@ -102,7 +103,8 @@ impl Board {
         requires here { seat.old.board ≡ self.now }
         requires drawn { IsIn task seat.old.state.drawn }
         ensures board { seat.new.board ≡ self.now }
-        ensures noted { seat.new.state ≡ record seat.old.state { noted = seat.old.state.noted ++ task ∷ []; seen = seat.new.state.seen } }
+        ensures noted { seat.new.state ≡
+            record seat.old.state { noted = seat.old.state.noted ++ task ∷ []; seen = seat.new.state.seen } }
         ensures seen_task { seat.new.state.seen ≤ task }
         ensures seen_before { seat.new.state.seen ≤ seat.old.state.seen }
         ensures event { IsStep self.now.n self.now.whole (λ k. Note k task) (Least seat.new.state.seen) seat.old.state seat.new.state }
@@ -112,8 +114,8 @@ impl Board {
             .fetch_min::<NoteStep>(&mut seat.token, 1, task);
     }
 
-    /// The least task noted by any seat, or the greatest u64 where none is. It becomes the seat's bound. It takes no memory
-    /// and never waits.
+    /// The least task noted by any seat, or the greatest u64 where none is. It becomes the seat's bound. It takes no
+    /// memory and never waits.
     pub fn look(&self, seat: &mut Seat) -> u64
         requires { seat.old.board ≡ self.now }
         ensures board { seat.new.board ≡ self.now }
@@ -157,8 +159,8 @@ impl Board {
         (seat, Seat { token: other })
     }
 
-    /// Puts two seats together: weights, spent numbers, drawn and noted numbers, with those of the first seat first, and
-    /// the lesser bound. It takes no memory and never waits.
+    /// Puts two seats together: weights, spent numbers, drawn and noted numbers, with those of the first seat first,
+    /// and the lesser bound. It takes no memory and never waits.
     pub fn join(&self, mut a: Seat, b: Seat) -> Seat
         requires a { a.board ≡ self.now }
         requires b { b.board ≡ self.now }

@@ -1,4 +1,5 @@
-// What seats do, what they are answered, and what is refused.
+//! What seats do, what they are answered, and what is refused.
+
 use std::alloc::AllocError;
 use thiserror::Error;
 

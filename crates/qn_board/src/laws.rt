@@ -1,4 +1,5 @@
-// What holds of every state that the task machine reaches.
+//! What holds of every state that the task machine reaches.
+
 ghost use Rattle.qn_board.specs.Laws.{StartsSound, StaysSound, RunsSound, IsDeterministic, DrawsOnce, NextIsBounded, SpentShowsEnd, WholeIsAlone, FinishDecides};
 ghost use Rattle.qn_board.specs.Worked.{IsWorked};
 

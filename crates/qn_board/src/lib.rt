@@ -1,4 +1,7 @@
-// Tasks that workers draw from one board, each once, and the least task that any of them noted.
+//! Tasks that workers draw from one board, each once, and the least task that any of them noted.
+//!
+//! For contractions by several threads. It hands on `Board` with its seats, and the task machine that says what they
+//! do.
 #![tactic(auto)]
 
 mod board;

@@ -1,4 +1,5 @@
-// The task machine: what a board and its seats are, as one thread would keep it.
+//! The task machine: what a board and its seats are, as one thread would keep it.
+
 ghost use Rattle.std.specs.Prelude.{◌≡◌, ℕ, ◌≤◌, ◌^◌, ◌↔◌, IfOk, IfErr, IfSome, OnErr, IsNone, IsTrue, List, cond, take};
 ghost use Rattle.qn_board.specs.Seats.{SeatValue, seat_at};
 ghost use Rattle.qn_board.specs.Machine.{Machine, IsTransition, IsMet, IsRunFault, Runs, first};
@@ -308,7 +309,9 @@ pub fn run_events(
     ensures sound { (i : ℕ) (m : Machine) → Runs (first n weight) (take i events.now) m → IsSound m }
 
     // The law of a finished list.
-    ensures finished { IfOk result (λ m. (k : ℕ) (s : SeatValue) (done passing : List ℕ) → seat_at m.seats k ≡ Some s → IsFinished m done passing s → IsDecided m done passing s) }
+    ensures finished { IfOk result (λ m.
+        (k : ℕ) (s : SeatValue) (done passing : List ℕ) → seat_at m.seats k ≡ Some s →
+        IsFinished m done passing s → IsDecided m done passing s) }
 {
     let mut machine = TaskMachine::new(alloc, n, weight)?;
     for (i, event) in events.iter().enumerate() {

@@ -1,10 +1,12 @@
-// The rule of the table on which a board stands, and its five kinds of atomic step: a draw adds 1 to word 0, a note lowers
-// word 1, a look loads word 1, and a split and a join of seats each load word 0.
+//! The rule of the table on which a board stands, and its five kinds of atomic step: a draw adds 1 to word 0, a note
+//! lowers word 1, a look loads word 1, and a split and a join of seats each load word 0.
+
 use crate::seat::SeatState;
 use atomic_table::{Join, Play, Split, TableRule};
 use std::marker::{Brand, PhantomData};
 
-/// What a seat knows: both sizes of the board, and its own state unless it was joined to another seat. No value of it is made.
+/// What a seat knows: both sizes of the board, and its own state unless it was joined to another seat. No value of it
+/// is made.
 pub struct View {
     pub n: u64,
     pub whole: u64,

@@ -1,4 +1,5 @@
-// A seat of the task machine, and the row of its seats.
+//! A seat of the task machine, and the row of its seats.
+
 ghost use Rattle.std.specs.Prelude.{◌≡◌, ◌≤◌, ◌<◌, ◌^◌, ◌↔◌, ◌+◌, ◌-◌, ◌++◌, [], ◌∷◌, IfOk, IfErr, OnOk, IsTrue, cond, length, min, set};
 ghost use Rattle.qn_board.specs.Lists.{IsIn};
 ghost use Rattle.qn_board.specs.Seats.{SeatValue, seat_at};
@@ -48,7 +49,10 @@ impl SeatState {
     // A draw that found this number: a task, or none.
     pub(crate) fn draw(&mut self, next: u64, is_task: bool) -> Result<(), AllocError>
         requires { self.old.spent < 2 ^ 64 - 1 }
-        ensures ok { OnOk result (self.new ≡ cond is_task (record self.old { drawn = self.old.drawn ++ next ∷ [] }) (record self.old { spent = self.old.spent + 1 })) }
+        ensures ok { OnOk result (
+            self.new ≡
+            cond is_task (record self.old { drawn = self.old.drawn ++ next ∷ [] }) (
+            record self.old { spent = self.old.spent + 1 })) }
         ensures err { IfErr result (λ _. self.new ≡ self.old) }
     {
         if is_task {

@@ -1,4 +1,5 @@
-// The worked boards and lists of events.
+//! The worked boards and lists of events.
+
 ghost use Rattle.std.specs.Prelude.{◌≡◌, ◌+◌, ◌<◌};
 
 use crate::{Board, Event, MachineFault, Reply, RunFault, Seat, TaskMachine, run_events};

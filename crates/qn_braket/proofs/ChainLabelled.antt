@@ -14,7 +14,7 @@ use Rattle.qn_braket.specs.Pieces.{chain_links, site_lines, state_names, operato
 use Rattle.qn_braket.specs.Chains.{leg_at, tensor_at, state_legs, operator_legs, legs_left, legs_right, IsChain, IsStateChain, IsOperatorChain, with_labels, back_with_labels, state_members, operator_members, AreConjugates, overlap_members, expect_members}
 use Rattle.qn_braket.specs.ChainLaws.{ChainFaultlessLaw, OverlapFaultlessLaw, ExpectFaultlessLaw}
 use Rattle.qn_braket.proofs.Back.{perm_reverse}
-use Rattle.qn_braket.proofs.SlotLaws.{well_labelled, word_of_ends}
+use Rattle.qn_braket.proofs.SlotLaws.{well_labelled}
 use Rattle.qn_braket.proofs.PlacedChains.{IsState, IsOperator, state_placed, operator_placed, AllConjugate, piece_of}
 use Rattle.qn_braket.proofs.StateValues
 use Rattle.qn_braket.proofs.StateValues.{links_positive, state_opens}
@@ -27,6 +27,7 @@ use Rattle.qn_braket.proofs.ExpectValues.{expect_line}
 use Rattle.qn_braket.proofs.ChainLists.{left_one, tensors, site_sectors, rights, state_is, operator_is, placed_of, state_list, operator_list, conjugates_long, conjugates_placed, conjugates_are}
 use Rattle.qn_braket.proofs.ListValues.{last_site, overlap_placed, expect_placed}
 use Rattle.qn_braket.proofs.Faultless.{AreLabels, labels-both, labels-perm, AllLabelled, labelled-both, labelled-perm, faultless_from}
+use Rattle.qn_value.proofs.LabelLemmas.{word_ends}
 
 -- the labels of one site
 
@@ -210,7 +211,7 @@ module _ (sites : List LegValue) (ts : List BlockedValue) (few : length sites 鈮
 
       well : IsWellLabelled (ends (slots (state_placed own_upper own_link (tensors ts) m))) (suc m)
       well =
-          subst (位 es. IsWellLabelled es (suc m)) (word_of_ends (state_placed own_upper own_link (tensors ts) m))
+          subst (位 es. IsWellLabelled es (suc m)) (word_ends (state_placed own_upper own_link (tensors ts) m))
           (well_labelled (map node_of (state_placed own_upper own_link (tensors ts) m)) (chain_links own_link (piece_of r (tensors ts)) 0 m)
           (outs (site_lines own_upper (位 j. total (sec j)) 0 (suc m))) (suc m)
           (StateValues.own_net [] sec r (tensors ts) m is) (links_positive (piece_of r (tensors ts)) m 0) (state_opens (位 j. total (sec j)) (suc m)))
@@ -245,7 +246,7 @@ module _ (sites : List LegValue) (ts : List BlockedValue) (few : length sites 鈮
 
       well : IsWellLabelled (ends (slots (operator_placed own_upper (own_lower m) own_link (tensors ts) m))) (2 * m + 2)
       well =
-          subst (位 es. IsWellLabelled es (2 * m + 2)) (word_of_ends (operator_placed own_upper (own_lower m) own_link (tensors ts) m))
+          subst (位 es. IsWellLabelled es (2 * m + 2)) (word_ends (operator_placed own_upper (own_lower m) own_link (tensors ts) m))
           (well_labelled (map node_of (operator_placed own_upper (own_lower m) own_link (tensors ts) m)) (chain_links own_link (piece_of r (tensors ts)) 0 m)
           (own_opens (位 j. total (sec j)) m) (2 * m + 2)
           (OperatorValues.own_net [] sec r (tensors ts) m is) (links_positive (piece_of r (tensors ts)) m 0) (own_are (位 j. total (sec j)) m))
@@ -278,7 +279,7 @@ overlap_faultless sites bra cs ket few b h k =
     let line = overlap_line sec (rights bra) (rights ket) in
     let on : HaveSectorsOn line (slots all) = OverlapValues.lines_are [] sec (rights bra) (rights ket) (tensors bra) (tensors ket) m bra_is ket_is qs conj in
     let well : IsWellLabelled (ends (slots all)) 0 =
-    subst (位 es. IsWellLabelled es 0) (word_of_ends all)
+    subst (位 es. IsWellLabelled es 0) (word_ends all)
     (well_labelled (map node_of all) (OverlapValues.all_lines [] sec (rights bra) (rights ket) (tensors bra) (tensors ket) m bra_is ket_is qs conj) [] 0
     (OverlapValues.net [] sec (rights bra) (rights ket) (tensors bra) (tensors ket) m bra_is ket_is qs conj)
     (OverlapValues.positive_from [] sec (rights bra) (rights ket) (tensors bra) (tensors ket) m bra_is ket_is qs conj m 0) no_opens) in
@@ -313,7 +314,7 @@ expect_faultless sites bra cs op ket few b h o k =
     let on : HaveSectorsOn line (slots all) =
     ExpectValues.lines_are [] sec (rights bra) (rights op) (rights ket) (tensors bra) (tensors op) (tensors ket) m bra_is op_is ket_is qs conj in
     let well : IsWellLabelled (ends (slots all)) 0 =
-    subst (位 es. IsWellLabelled es 0) (word_of_ends all)
+    subst (位 es. IsWellLabelled es 0) (word_ends all)
     (well_labelled (map node_of all) (ExpectValues.all_lines [] sec (rights bra) (rights op) (rights ket) (tensors bra) (tensors op) (tensors ket) m bra_is op_is ket_is qs conj) [] 0
     (ExpectValues.net [] sec (rights bra) (rights op) (rights ket) (tensors bra) (tensors op) (tensors ket) m bra_is op_is ket_is qs conj)
     (ExpectValues.positive_from [] sec (rights bra) (rights op) (rights ket) (tensors bra) (tensors op) (tensors ket) m bra_is op_is ket_is qs conj m 0) no_opens) in

@@ -24,8 +24,9 @@ use Rattle.qn_net.proofs.MeetingLemmas.{weight}
 use Rattle.qn_braket.specs.ChainLabels.{left_label, right_label, state_labels, operator_labels}
 use Rattle.qn_braket.specs.Pieces.{sum_states}
 use Rattle.qn_braket.specs.Chains.{leg_at, tensor_at, state_legs, operator_legs, legs_left, legs_right, first_leg, last_leg, IsChain, IsStateChain, IsOperatorChain, with_labels, sum_values, AreConjugates}
-use Rattle.qn_braket.proofs.SlotLaws.{ArePositive, AreOpens, word_of_ends}
+use Rattle.qn_braket.proofs.SlotLaws.{ArePositive, AreOpens}
 use Rattle.qn_braket.proofs.PlacedChains.{placed_chain, AreChained, site_leg, IsState, IsOperator, state_placed, operator_placed, AllConjugate}
+use Rattle.qn_value.proofs.LabelLemmas.{word_ends}
 
 -- numbers
 
@@ -335,7 +336,7 @@ all_open (e ∷ os) h =
 pub counted : (ps : List Placed) (bs : List Bond) (opens : List End) (n : ℕ) → IsNetwork (map node_of ps) bs opens → ArePositive (labels bs) → AreOpens opens n →
     open_count (ends (slots ps)) ≡ length opens
 counted ps bs opens n net positive are =
-    ap open_count (sym (word_of_ends ps))
+    ap open_count (sym (word_ends ps))
     ∙ count-perm (λ e. not (is_positive e.label)) net.complete
     ∙ bonds_closed bs opens positive
     ∙ all_open opens (λ e h. ap is_positive (are.not_positive e h).2)

@@ -14,7 +14,7 @@ use Rattle.qn_value.specs.Labels.{Slot, slots, node_of, is_positive, bonds_from,
 use Rattle.qn_sign.proofs.Parity.{perm-sym}
 use Rattle.qn_sign.proofs.Order.{is_in-append, is_in-perm, distinct-perm}
 use Rattle.qn_value.proofs.Sums.{label_test}
-use Rattle.qn_value.proofs.NetLaws.{end_test, perm_turn}
+use Rattle.qn_value.proofs.NetLaws.{end_test}
 use Rattle.qn_value.proofs.PlacedLemmas.{HaveSectorsOn}
 use Rattle.qn_braket.specs.Conjugates.{flip}
 use Rattle.qn_braket.specs.Brakets.{outs, ins_back}
@@ -27,14 +27,12 @@ use Rattle.qn_braket.proofs.ChainNets.{ends_labels, operator_perm, name_upper, n
 use Rattle.qn_braket.proofs.SlotLaws.{ArePositive, AreOpens, negative_in, plain_value}
 use Rattle.qn_braket.proofs.PlacedChains.{site_leg, IsOperator, operator_placed, element_of, slot_at, chain_slots, all_chain, all_chain_below, chain_bonds, piece_of, placed_slots, placed_nodes, links_same}
 use Rattle.qn_braket.proofs.StateValues.{own_distinct, links_positive, not_in_outs, in_outs, from_outs, opens_same}
+use Rattle.qn_net.proofs.WellFormed.{push_distinct}
 
 -- the labels of the open ends differ
 
 absent-snoc : (l : ℤ) (us : List ℤ) (u : ℤ) → is_in int_eq l us ≡ false → int_eq l u ≡ false → is_in int_eq l (us ++ u ∷ []) ≡ false
 absent-snoc l us u h k = is_in-append int_eq l us (u ∷ []) ∙ or_from (is_in int_eq l us) (int_eq l u || false) h (or_from (int_eq l u) false k refl)
-
-distinct-snoc : (us : List ℤ) (u : ℤ) → IsDistinct int_eq us → is_in int_eq u us ≡ false → IsDistinct int_eq (us ++ u ∷ [])
-distinct-snoc us u d h = distinct-perm int_eq label_test (perm_turn (u ∷ []) us) (h, d)
 
 open_fresh : (es : List End) (n i : ℕ) → n ≤ i → is_in int_eq (negsuc i) (ends_labels (opens_of es n)) ≡ false
 open_fresh es zero i h = refl
@@ -52,7 +50,7 @@ open_distinct : (es : List End) (n : ℕ) → IsDistinct int_eq (ends_labels (op
 open_distinct es zero = tt
 open_distinct es (suc n) =
     subst (IsDistinct int_eq) (sym (map-append (λ (e : End). e.label) (opens_of es n) (open_end es n ∷ [])))
-    (distinct-snoc (ends_labels (opens_of es n)) (negsuc n) (open_distinct es n) (open_fresh es n n (itself n)))
+    (push_distinct (ends_labels (opens_of es n)) (negsuc n) (open_distinct es n) (open_fresh es n n (itself n)))
   where
     itself : (n : ℕ) → n ≤ n
     itself n = omega arith

@@ -1,20 +1,18 @@
 -- The value of a network of placed tensors, by the sectors of its lines.
 use Rattle.std.proofs.Common.{◌≡◌, ℕ, ◌<◌, ℤ, negsuc, Bool, true, false, not, ◌&&◌, ◌||◌, ◌⊎◌, inl, inr, cond, List, [], ◌∷◌, ◌++◌, map, refl, sym, ◌∙◌, ap, subst, append_assoc, int_eq}
-use Rattle.std.specs.Prelude.{int_lt}
 use Rattle.std.proofs.lemmas.Bool.{false≢true}
-use Rattle.std.proofs.lemmas.List.{map-append}
 use Rattle.qn_sign.specs.Sign.{is_in, Perm}
 use Rattle.qn_sign.specs.Sign.Perm.{none, keep, swap, then_by}
 use Rattle.qn_charge.specs.declared.factor.Factor.{Factor}
 use Rattle.qn_index.specs.Legs.{SectorValue, total, parity_at}
 use Rattle.qn_value.specs.Networks.{End, Node, Bond, same_bool, same_end, word, pairs_of, labels, flat, at_values, IsNetwork}
-use Rattle.qn_value.specs.Labels.{Placed, Slot, slots_of, slots, ends, node_of, sectors_on, parity_of, is_positive, bonds_from, place_bond, in_label_order, bonds_of, opens_of, IsWellLabelled, value_of}
-use Rattle.qn_sign.proofs.Parity.{perm-refl, perm-sym, perm_under, perm_blocks}
+use Rattle.qn_value.specs.Labels.{Placed, Slot, slots, ends, node_of, sectors_on, parity_of, is_positive, bonds_from, bonds_of, opens_of, IsWellLabelled, value_of}
+use Rattle.qn_sign.proofs.Parity.{perm-sym, perm_under, perm_blocks}
 use Rattle.qn_sign.proofs.Order.{is_in-append, is_in-perm}
 use Rattle.qn_value.proofs.Sums.{label_test}
 use Rattle.qn_value.proofs.NetLaws.{ends-labels}
 use Rattle.qn_value.proofs.Steps.{order_law, parity_law}
-use Rattle.qn_value.proofs.LabelLemmas.{plain_network}
+use Rattle.qn_value.proofs.LabelLemmas.{plain_network, word_ends, perm_order}
 use Rattle.qn_value.proofs.PlacedLemmas.{HaveSectorsOn}
 
 -- each slot has the sectors of its line
@@ -45,11 +43,6 @@ parity_line fs line (s ∷ ss) h e k v =
     go false f l ih = ap (λ b. parity_at fs (cond b s.sectors (sectors_on ss e.label)) v) f ∙ ih l v
 
 -- the word of the tensors
-
-pub word_of_ends : (ps : List Placed) → word (map node_of ps) ≡ ends (slots ps)
-word_of_ends [] = refl
-word_of_ends (p ∷ ps) =
-    ap (λ es. ends (slots_of p.tensor.legs p.labels) ++ es) (word_of_ends ps) ∙ sym (map-append (λ s. s.end) (slots_of p.tensor.legs p.labels) (slots ps))
 
 -- the bonds in any order of the slots
 
@@ -82,18 +75,6 @@ bonds-perm (swap {x = s} {y = t} {xs = ss}) =
     (subst (Perm (one_bond s ++ (one_bond t ++ bonds_from [] ss))) (sym (bonds_cons t (s ∷ ss) ∙ ap (λ bs. one_bond t ++ bs) (bonds_cons s ss)))
     (perm_blocks (one_bond s) (one_bond t) (bonds_from [] ss)))
 bonds-perm (then_by p q) = then_by (bonds-perm p) (bonds-perm q)
-
-sorted_place : (b : Bond) (bs : List Bond) → Perm (b ∷ bs) (place_bond b bs)
-sorted_place b [] = perm-refl (b ∷ [])
-sorted_place b (c ∷ cs) = go (int_lt b.label c.label) (sorted_place b cs)
-  where
-    go : (t : Bool) → Perm (b ∷ cs) (place_bond b cs) → Perm (b ∷ c ∷ cs) (cond t (b ∷ c ∷ cs) (c ∷ place_bond b cs))
-    go true ih = perm-refl (b ∷ c ∷ cs)
-    go false ih = then_by swap (keep ih)
-
-sorted : (bs : List Bond) → Perm bs (in_label_order bs)
-sorted [] = none
-sorted (b ∷ bs) = then_by (keep (sorted bs)) (sorted_place b (in_label_order bs))
 
 -- labels of bonds and of open legs
 
@@ -155,13 +136,13 @@ module _ (fs : List Factor) (ps : List Placed) (n : ℕ) (bs : List Bond) (opens
     (are : AreOpens opens n) (opens_are : opens_of (word (map node_of ps)) n ≡ opens) (bonds_are : Perm (bonds_from [] (slots ps)) bs)
     (line : ℤ → List SectorValue) (all : HaveSectorsOn line (slots ps)) where
   pub labelled : IsWellLabelled (ends (slots ps)) n
-  labelled = subst (λ es. IsWellLabelled es n) (word_of_ends ps) (well_labelled (map node_of ps) bs opens n net positive are)
+  labelled = subst (λ es. IsWellLabelled es n) (word_ends ps) (well_labelled (map node_of ps) bs opens n net positive are)
 
   opens_same : opens_of (ends (slots ps)) n ≡ opens
-  opens_same = ap (λ es. opens_of es n) (sym (word_of_ends ps)) ∙ opens_are
+  opens_same = ap (λ es. opens_of es n) (sym (word_ends ps)) ∙ opens_are
 
   to_bonds : Perm (bonds_of [] (slots ps)) bs
-  to_bonds = then_by (perm-sym (sorted (bonds_from [] (slots ps)))) bonds_are
+  to_bonds = then_by (perm-sym (perm_order (bonds_from [] (slots ps)))) bonds_are
 
   pub plain_value : (par : ℤ → ℕ → Bool) → ((e : End) → is_in same_end e (word (map node_of ps)) ≡ true → (v : ℕ) → par e.label v ≡ parity_at fs (line e.label) v) →
       (xs : List ℕ) → value_of fs ps [] n xs ≡ flat par (map node_of ps) bs opens (at_values opens xs)
@@ -170,4 +151,4 @@ module _ (fs : List Factor) (ps : List Placed) (n : ℕ) (bs : List Bond) (opens
       ∙ order_law (parity_of fs (slots ps)) (map node_of ps) (bonds_of [] (slots ps)) bs opens
       (subst (IsNetwork (map node_of ps) (bonds_of [] (slots ps))) opens_same (plain_network ps [] n labelled)) to_bonds (at_values opens xs)
       ∙ parity_law (parity_of fs (slots ps)) par (map node_of ps) bs opens net
-      (λ e k v. parity_line fs line (slots ps) all e (subst (λ es. is_in same_end e es ≡ true) (word_of_ends ps) k) v ∙ sym (h e k v)) (at_values opens xs)
+      (λ e k v. parity_line fs line (slots ps) all e (subst (λ es. is_in same_end e es ≡ true) (word_ends ps) k) v ∙ sym (h e k v)) (at_values opens xs)

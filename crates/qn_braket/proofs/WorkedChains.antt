@@ -1,4 +1,4 @@
--- The worked example: a state of two fermion sites, its overlap, and the expectation of a hop.
+-- The worked example: a state of below_two fermion sites, its overlap, and the expectation of a hop.
 use Rattle.std.proofs.Common.{◌≡◌, ◌≢◌, ℕ, zero, suc, ◌<◌, pos, negsuc, Bool, true, false, cond, List, [], ◌∷◌, reverse, refl, sym, ◌∙◌, ap, ap₂, subst, arith}
 use Rattle.std.proofs.lemmas.Bool.{false≢true}
 use Rattle.std.proofs.lemmas.List.{reverse-reverse}
@@ -7,13 +7,15 @@ use Rattle.qn_gauss.specs.Gaussian.{Gaussian, zero_g, one_g, add_g, mul_g, neg_g
 use Rattle.qn_index.specs.declared.leg.Dir.TheVariants.{Out, In}
 use Rattle.qn_value.specs.Examples.{fermions}
 use Rattle.qn_value.specs.Tensors.{Row, same_values, entry_at}
-use Rattle.qn_value.proofs.Values.{same_values-equal, both_ways}
+use Rattle.qn_value.proofs.Values.{same_values-equal}
 use Rattle.qn_value.proofs.RowsLemmas.{same_values-itself}
 use Rattle.qn_gauss.proofs.Conjugate.{conj_zero}
 use Rattle.qn_net.specs.NetworkValues.{value}
 use Rattle.qn_braket.specs.ChainLaws.{network_flux}
 use Rattle.qn_braket.specs.Chains.{leg_at, tensor_at, state_legs, operator_legs, AreLegsOf, HasLink, IsStateChain, IsOperatorChain, chain_flux, amplitude, element, overlap, expectation, AreConjugates, overlap_network, expect_network}
 use Rattle.qn_braket.specs.Examples.{number, two_sites, state, turned_state, hop, conjugates}
+use Rattle.qn_facts.proofs.Numbers.{below_two}
+use Rattle.qn_facts.proofs.Booleans.{same_tests}
 
 pub amplitude_10 : amplitude fermions state (1 ∷ 0 ∷ []) ≡ number (pos 0) (pos 2)
 unfolding zero_g one_g add_g mul_g neg_g
@@ -55,11 +57,6 @@ overlap_flux = refl
 
 -- the chains are chains
 
-two : (P : ℕ → Type 0) → P 0 → P 1 → (j : ℕ) → j < 2 → P j
-two P a b zero h = a
-two P a b (suc zero) h = b
-two P a b (suc (suc j)) h = absurd (omega (arith, h))
-
 one : (P : ℕ → Type 0) → P 0 → (j : ℕ) → suc j < 2 → P j
 one P a zero h = a
 one P a (suc j) h = absurd (omega (arith, h))
@@ -80,7 +77,7 @@ is_state = record {
   some = omega arith;
   outward = outward;
   count = refl;
-  shapes = two (λ j. AreLegsOf (state_legs (leg_at two_sites j)) 2 j (tensor_at state j).legs) (record { count = refl; own = refl }) (record { count = refl; own = refl });
+  shapes = below_two (λ j. AreLegsOf (state_legs (leg_at two_sites j)) 2 j (tensor_at state j).legs) (record { count = refl; own = refl }) (record { count = refl; own = refl });
   links = one (HasLink state) (in_out, refl);
 }
 
@@ -89,7 +86,7 @@ is_turned = record {
   some = omega arith;
   outward = outward;
   count = refl;
-  shapes = two (λ j. AreLegsOf (state_legs (leg_at two_sites j)) 2 j (tensor_at turned_state j).legs) (record { count = refl; own = refl }) (record { count = refl; own = refl });
+  shapes = below_two (λ j. AreLegsOf (state_legs (leg_at two_sites j)) 2 j (tensor_at turned_state j).legs) (record { count = refl; own = refl }) (record { count = refl; own = refl });
   links = one (HasLink turned_state) (out_in, refl);
 }
 
@@ -98,7 +95,7 @@ is_operator = record {
   some = omega arith;
   outward = outward;
   count = refl;
-  shapes = two (λ j. AreLegsOf (operator_legs (leg_at two_sites j)) 2 j (tensor_at hop j).legs) (record { count = refl; own = refl }) (record { count = refl; own = refl });
+  shapes = below_two (λ j. AreLegsOf (operator_legs (leg_at two_sites j)) 2 j (tensor_at hop j).legs) (record { count = refl; own = refl }) (record { count = refl; own = refl });
   links = one (HasLink hop) (in_out, refl);
 }
 
@@ -106,11 +103,11 @@ is_operator = record {
 
 back_same : (u v : List ℕ) → same_values (reverse u) (reverse v) ≡ same_values u v
 back_same u v =
-    both_ways (same_values (reverse u) (reverse v)) (same_values u v)
+    same_tests (same_values (reverse u) (reverse v)) (same_values u v)
     (λ e. subst (λ w. same_values u w ≡ true) (sym (reverse-reverse u) ∙ ap reverse (same_values-equal (reverse u) (reverse v) e) ∙ reverse-reverse v) (same_values-itself u))
     (λ e. subst (λ w. same_values (reverse u) (reverse w) ≡ true) (same_values-equal u v e) (same_values-itself (reverse u)))
 
--- two rows, and those of the conjugate in the same order or in the other one
+-- below_two rows, and those of the conjugate in the same order or in the other one
 module _ (u v : List ℕ) (x y : Gaussian) (xs : List ℕ) where
   abbrev rows : List Row
   rows = record { values = u; entry = x } ∷ record { values = v; entry = y } ∷ []

@@ -19,7 +19,8 @@ pub fn expect_law()
     ensures { ExpectLaw }
 {}
 
-/// The network of the overlap of two chains is the sum over the values of the sites of conj(bra's amplitude) times the ket's.
+/// The network of the overlap of two chains is the sum over the values of the sites of conj(bra's amplitude) times the
+/// ket's.
 pub fn overlap_chain_law()
     ensures { OverlapChainLaw }
 {}

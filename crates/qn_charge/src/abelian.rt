@@ -1,3 +1,5 @@
+//! What a group of charges promises: the trait under which tensors may be written for any group.
+
 ghost use Rattle.std.specs.Prelude.{◌≡◌, Bool};
 ghost use Rattle.qn_charge.specs.Charges.{xor};
 

@@ -1,3 +1,5 @@
+//! One factor of a group, U(1) or Z_n, bosonic or fermionic.
+
 ghost use Rattle.std.specs.Prelude.{◌≡◌, ◌↔◌, ℤ, ◌^◌, ◌+ℤ◌, neg_ℤ, IsTrue};
 ghost use Rattle.qn_charge.specs.Charges.{is_fermion, is_odd, fermion_part, reduced, IsFactor, IsCanonicalPart, IsPartWithin};
 ghost use Rattle.qn_charge.specs.Ranges.{IsOutOfBound};

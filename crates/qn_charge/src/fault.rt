@@ -1,3 +1,5 @@
+//! Why factors are no group.
+
 /// Why factors are no group. `factor` is the number of the first factor at fault, counted from 0.
 #[derive(Clone, Copy, Debug, PartialEq, Eq)]
 pub enum GroupFault {

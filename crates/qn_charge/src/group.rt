@@ -1,3 +1,5 @@
+//! A group of up to four factors: sums, negatives, canonical forms, order and parity of its charges.
+
 ghost use Rattle.std.specs.Prelude.{◌≡◌, ℕ, ◌≤◌, ◌<◌, List, length, slice_index_or, ℤ, IfOk, IfErr, MatchOption, IsTrue, ◌↔◌, false};
 ghost use Rattle.qn_charge.specs.declared.factor.Factor.TheVariants.{U1};
 ghost use Rattle.qn_charge.specs.Charges.{IsGroup, IsCanonical, canon_charge};

@@ -1,3 +1,5 @@
+//! The laws of charges: a commutative group, whose parity is a homomorphism.
+
 ghost use Rattle.std.specs.Prelude.{◌≡◌, ℕ, ℤ, List, length};
 ghost use Rattle.qn_charge.specs.declared.factor.Factor.{Factor};
 ghost use Rattle.qn_charge.specs.Charges.{IsGroup, IsCanonical, IsWithin, zero_charge, sum_charge, neg_charge, canon_charge, parity};

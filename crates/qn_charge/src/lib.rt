@@ -1,4 +1,6 @@
 //! Charges of a product of up to four Abelian groups, each U(1) or Z_n, bosonic or fermionic.
+//!
+//! For every crate that has legs. It hands on `Group`, `Charge` and the trait `Abelian`, and the laws of charges.
 #![tactic(auto)]
 
 mod abelian;

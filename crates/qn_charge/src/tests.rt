@@ -1,3 +1,5 @@
+//! Factors at fault, and sums, negatives, parities and order of small charges.
+
 ghost use Rattle.std.specs.Prelude.{◌≡◌, ◌≤◌, ◌^◌, length};
 ghost use Rattle.qn_charge.specs.Charges.{IsCanonical, IsWithin, xor};
 

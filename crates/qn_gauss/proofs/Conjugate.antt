@@ -5,10 +5,6 @@ use Rattle.std.proofs.Math.IntN.{neg_ℤ-neg_ℤ, neg_ℤ-+ℤ}
 use Rattle.qn_gauss.specs.Gaussian.{Gaussian, zero_g, one_g, add_g, mul_g, neg_g, conj_g}
 use Rattle.qn_gauss.proofs.Ring.{gauss_path, times_neg, neg_times}
 
-pub conj_conj : (x : Gaussian) → conj_g (conj_g x) ≡ x
-unfolding conj_g
-conj_conj x = gauss_path _ _ refl (neg_ℤ-neg_ℤ x.im)
-
 pub conj_zero : conj_g zero_g ≡ zero_g
 unfolding conj_g zero_g
 conj_zero = refl

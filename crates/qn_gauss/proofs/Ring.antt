@@ -160,10 +160,6 @@ mul_neg x y =
 pub zero_add : (x : Gaussian) → add_g zero_g x ≡ x
 zero_add x = add_comm zero_g x ∙ add_zero x
 
-pub add_neg : (x : Gaussian) → add_g x (neg_g x) ≡ zero_g
-unfolding add_g neg_g zero_g
-add_neg x = gauss_path _ _ (back x.re) (back x.im)
-
 pub one_mul : (x : Gaussian) → mul_g one_g x ≡ x
 one_mul x = mul_comm one_g x ∙ mul_one x
 
@@ -176,9 +172,6 @@ mul_add_right x y z = mul_comm (add_g x y) z ∙ mul_add z x y ∙ ap₂ add_g (
 -- the first two of three factors change places
 pub mul_swap : (x y z : Gaussian) → mul_g x (mul_g y z) ≡ mul_g y (mul_g x z)
 mul_swap x y z = sym (mul_assoc x y z) ∙ ap (λ w. mul_g w z) (mul_comm x y) ∙ mul_assoc y x z
-
-pub neg_mul : (x y : Gaussian) → mul_g (neg_g x) y ≡ neg_g (mul_g x y)
-neg_mul x y = mul_comm (neg_g x) y ∙ mul_neg y x ∙ ap neg_g (mul_comm y x)
 
 pub neg_add : (x y : Gaussian) → neg_g (add_g x y) ≡ add_g (neg_g x) (neg_g y)
 unfolding add_g neg_g

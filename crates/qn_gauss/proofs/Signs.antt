@@ -33,6 +33,6 @@ pub conj-signed : (b : Bool) (x : Gaussian) → conj_g (signed b x) ≡ signed b
 conj-signed true x = conj_neg x
 conj-signed false x = refl
 
-pub mag-signed : (b : Bool) (x : Gaussian) → mag (signed b x) ≡ mag x
-mag-signed true x = mag-neg x
-mag-signed false x = refl
+pub mag_signed : (b : Bool) (x : Gaussian) → mag (signed b x) ≡ mag x
+mag_signed true x = mag-neg x
+mag_signed false x = refl

@@ -1,7 +1,7 @@
 -- Sizes of sums and products of whole numbers.
-use Rattle.std.proofs.Common.{◌≡◌, ℕ, ◌+◌, ◌*◌, ◌≤◌, ℤ, pos, ◌+ℤ◌, ◌-ℤ◌, ◌*ℤ◌, neg_ℤ, unsigned_abs, refl, ap, ap₂, arith}
+use Rattle.std.proofs.Common.{◌≡◌, ℕ, ◌+◌, ◌*◌, ◌≤◌, ℤ, pos, ◌+ℤ◌, ◌-ℤ◌, ◌*ℤ◌, neg_ℤ, unsigned_abs, refl, ap₂, arith}
 use Rattle.std.proofs.lemmas.Int.{ints, unsigned_abs-mul}
-use Rattle.qn_gauss.specs.Gaussian.{Gaussian, mag, zero_g, one_g, add_g, mul_g, neg_g, conj_g}
+use Rattle.qn_gauss.specs.Gaussian.{Gaussian, mag, zero_g, add_g, mul_g, neg_g}
 use Rattle.qn_gauss.proofs.Ring.{gauss_path}
 
 pub abs-add : (a b : ℤ) → unsigned_abs (a +ℤ b) ≤ unsigned_abs a + unsigned_abs b
@@ -40,17 +40,9 @@ pub mag-neg : (x : Gaussian) → mag (neg_g x) ≡ mag x
 unfolding neg_g
 mag-neg x = ap₂ ◌+◌ (abs-neg x.re) (abs-neg x.im)
 
-pub mag-conj : (x : Gaussian) → mag (conj_g x) ≡ mag x
-unfolding conj_g
-mag-conj x = ap (λ n. unsigned_abs x.re + n) (abs-neg x.im)
-
 pub mag_zero : mag zero_g ≡ 0
 unfolding zero_g
 mag_zero = refl
-
-pub mag_one : mag one_g ≡ 1
-unfolding one_g
-mag_one = refl
 
 -- only zero has the magnitude 0
 pub mag-eq-zero : (x : Gaussian) → mag x ≡ 0 → x ≡ zero_g

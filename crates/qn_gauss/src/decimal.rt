@@ -1,3 +1,5 @@
+//! The decimal of a 128-bit number, written and read back.
+
 ghost use Rattle.std.specs.Prelude.{◌≡◌, ◌≤◌, ◌<◌, ◌+◌, ◌-◌, ◌*◌, ℕ, ℤ, length, take, unsigned_abs, IfOk, IfSome, IsNone, IsTrue, ◌↔◌, slice_index, string_bytes};
 ghost use Rattle.std.specs.Fmt.{decimal, signed_decimal};
 ghost use Rattle.qn_gauss.specs.Gaussian.{limit};

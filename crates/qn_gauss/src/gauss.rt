@@ -1,3 +1,5 @@
+//! A Gaussian integer whose two magnitudes add up to at most 2^127 - 1, and its exact arithmetic.
+
 ghost use Rattle.std.specs.Prelude.{◌≡◌, ℕ, ◌+◌, ◌*◌, ◌≤◌, ◌<◌, ◌-◌, ◌^◌, ◌↔◌, ℤ, pos, ◌+ℤ◌, ◌-ℤ◌, ◌*ℤ◌, IsTrue, IsNone, IfSome, unsigned_abs};
 ghost use Rattle.qn_gauss.specs.Gaussian.{Gaussian, mag, limit, zero_g, add_g, mul_g, neg_g, conj_g};
 

@@ -1,4 +1,6 @@
 //! Exact Gaussian integers of bounded magnitude, their decimals, and a counter of their products.
+//!
+//! For every crate that has entries. It hands on `Gauss` with sums and products that are exact or refused, and `Steps`.
 #![tactic(auto)]
 
 mod decimal;

@@ -1,3 +1,5 @@
+//! Sums and products of magnitudes, refused where they pass the limit.
+
 ghost use Rattle.std.specs.Prelude.{◌≡◌, ◌+◌, ◌*◌, ◌≤◌, ◌<◌, ◌↔◌, IsNone, IfSome};
 ghost use Rattle.qn_gauss.specs.Gaussian.{limit};
 

@@ -1,3 +1,5 @@
+//! The counter that each product ticks.
+
 ghost use Rattle.std.specs.Prelude.{◌≡◌, ℕ, ◌+◌, ◌<◌};
 
 use std::marker::Model;

@@ -1,3 +1,5 @@
+//! Numbers at the limit and past it, products, and decimals both ways.
+
 ghost use Rattle.std.specs.Prelude.{◌≡◌, ℕ, ◌+◌, ◌*◌, ◌≤◌, ◌<◌};
 ghost use Rattle.qn_gauss.specs.Gaussian.{mag, limit};
 

@@ -120,7 +120,7 @@ fine_at seed n i some lt = All-get_or (IsFine n) (terms seed n) i no_term lt (te
 
 -- ---- no fault
 
-not_good : (ss : List SiteValue) (gs : List (ℕ × List ℕ)) (t : ℕ) (e : SumFault) → IsTermFault ss gs t e → IsGood ss gs → ⊥
+pub not_good : (ss : List SiteValue) (gs : List (ℕ × List ℕ)) (t : ℕ) (e : SumFault) → IsTermFault ss gs t e → IsGood ss gs → ⊥
 not_good ss gs t TermCount p g = p
 not_good ss gs t (SiteRange u zero) p g = omega (arith, p.1, g.few)
 not_good ss gs t (SiteRange u (suc i)) p g = g.sites i p.2.here

@@ -7,9 +7,9 @@ use Rattle.qn_gauss.specs.Gaussian.{Gaussian}
 use Rattle.qn_sites.specs.Kinds.{fermion, kind_site}
 use Rattle.qn_sites.specs.Sites.{SiteValue}
 use Rattle.qn_opsum.specs.Sums.{TermValue}
-use Rattle.qn_value.proofs.OpenLegs.{range-last}
 use Rattle.qn_gen.specs.Workload.{density, drawn, hop, hops, sites, turned}
 use Rattle.qn_gen.proofs.Draws.{drawn_here}
+use Rattle.qn_facts.proofs.Lists.{range_last}
 
 pub sites_more : (k : ℕ) (ss new : List SiteValue) (s : SiteValue) → ss ≡ sites k → s ≡ kind_site fermion → new ≡ ss ++ s ∷ [] → new ≡ sites (k + 1)
 sites_more k ss new s p q r =
@@ -20,7 +20,7 @@ hops_more ws us vs new a b j some p first q second r =
     let both : (us ++ hop j (j + 1) ∷ []) ++ hop (j + 1) j ∷ [] ≡ us ++ hops j = append_assoc us (hop j (j + 1) ∷ []) (hop (j + 1) j ∷ []) in
     let more : (ws ++ flat_map hops (range_with_len 1 (j - 1))) ++ hops j ≡ ws ++ flat_map hops (range_with_len 1 (j - 1) ++ j ∷ []) = flat_map_more hops ws (range_with_len 1 (j - 1)) j in
     let here : 1 + (j - 1) ≡ j = omega (arith, some) in
-    let last : range_with_len 1 (suc (j - 1)) ≡ range_with_len 1 (j - 1) ++ (1 + (j - 1)) ∷ [] = range-last 1 (j - 1) in
+    let last : range_with_len 1 (suc (j - 1)) ≡ range_with_len 1 (j - 1) ++ (1 + (j - 1)) ∷ [] = range_last 1 (j - 1) in
     let long : suc (j - 1) ≡ j + 1 - 1 = omega (arith, some) in
     let goal : ws ++ flat_map hops (range_with_len 1 (suc (j - 1))) ≡ ws ++ flat_map hops (range_with_len 1 (j + 1 - 1)) = ap (λ k. ws ++ flat_map hops (range_with_len 1 k)) long in
     cc

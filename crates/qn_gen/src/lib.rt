@@ -1,4 +1,6 @@
 //! The generated workload: two states and an operator sum on a row of fermion sites, from a seed.
+//!
+//! For the command `gen` and for measurements. It hands on the same workload for the same seed, on every machine.
 #![tactic(auto)]
 
 ghost use Rattle.std.specs.Prelude.{◌≡◌, IfOk};

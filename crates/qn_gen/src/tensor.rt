@@ -23,7 +23,9 @@ fn block(
 ) -> Result<Block, AllocError>
     requires tuple { IsTuple legs.now tuple.now }
     requires small { block_size legs.now tuple.now ≤ 2 ^ 22 }
-    ensures block { IfOk result (λ b. b ≡ record { tuple = tuple.now; entries = map (drawn draws.old.x) (range_with_len 0 (block_size legs.now tuple.now)) }) }
+    ensures block { IfOk result (λ b.
+        b ≡
+        record { tuple = tuple.now; entries = map (drawn draws.old.x) (range_with_len 0 (block_size legs.now tuple.now)) }) }
     ensures state { OnOk result (draws.new.x ≡ turned draws.old.x (block_size legs.now tuple.now)) }
 {
     let size = block_len(legs, tuple.as_slice());
@@ -46,7 +48,8 @@ fn blocks(
     requires flux { IsFlux group.now flux.now }
     requires shape { IsWithinLimits group.now legs.now flux.now }
     ensures blocks { IfOk result (λ v. v.items ≡ drawn_blocks draws.old.x 0 legs.now (admitted group.now legs.now flux.now)) }
-    ensures state { OnOk result (draws.new.x ≡ turned draws.old.x (sum_by (block_size legs.now) (admitted group.now legs.now flux.now))) }
+    ensures state { OnOk result (
+        draws.new.x ≡ turned draws.old.x (sum_by (block_size legs.now) (admitted group.now legs.now flux.now))) }
 {
     let tuples = admissible(alloc, group, legs, flux)?;
     let mut blocks = Vec::with_capacity(alloc, tuples.len())?;
@@ -67,8 +70,11 @@ pub(crate) fn drawn_tensor(
     requires group { All (IsLegOf group.now) legs.items }
     requires flux { IsFlux group.now flux }
     requires shape { IsWithinLimits group.now legs.items flux }
-    ensures tensor { IfOk result (λ t. t ≡ record { group = group.now; legs = legs.items; flux = flux; blocks = drawn_blocks draws.old.x 0 legs.items (admitted group.now legs.items flux) }) }
-    ensures state { OnOk result (draws.new.x ≡ turned draws.old.x (sum_by (block_size legs.items) (admitted group.now legs.items flux))) }
+    ensures tensor { IfOk result (λ t.
+        t ≡
+        record { group = group.now; legs = legs.items; flux = flux; blocks = drawn_blocks draws.old.x 0 legs.items (admitted group.now legs.items flux) }) }
+    ensures state { OnOk result (
+        draws.new.x ≡ turned draws.old.x (sum_by (block_size legs.items) (admitted group.now legs.items flux))) }
 {
     let blocks = blocks(alloc, group, &legs, &flux, draws)?;
     Ok(BlockTensor::of_blocks(*group, legs, flux, blocks))

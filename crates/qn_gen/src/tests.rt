@@ -1,3 +1,5 @@
+//! Coefficients, states and operators of small seeds, and how links widen.
+
 use crate::generate;
 use qn_block::{Block, BlockTensor};
 use qn_gauss::Gauss;

@@ -17,6 +17,8 @@ use Rattle.qn_index.specs.Places.{block_size}
 use Rattle.qn_index.specs.Extents.{size_of, entries}
 use Rattle.qn_index.specs.Weights.{remaining}
 use Rattle.qn_index.proofs.Shapes.{tuple_contained, contains_tuple, tuples_ascend}
+use Rattle.qn_facts.proofs.Booleans.{same_tests}
+pub use Rattle.qn_facts.proofs.Booleans.{same_tests}
 
 -- ---- filters and maps
 
@@ -58,11 +60,6 @@ from_remaining fs own n q g h e =
     ap (sum_charge fs own) e
     ∙ (sym (associative_charge fs own (neg_charge fs own) q g)
     ∙ (ap (λ z. sum_charge fs z q) (commutative_charge fs own (neg_charge fs own) ∙ neg_is_inverse fs own g) ∙ zero_is_neutral fs q h))
-
-pub same_tests : (s t : Bool) → (s ≡ true → t ≡ true) → (t ≡ true → s ≡ true) → s ≡ t
-same_tests true t f g = sym (f refl)
-same_tests false true f g = g refl
-same_tests false false f g = refl
 
 pub test_remaining : (fs : List Factor) (own n q : List ℤ) → IsGroup fs → IsCanonical fs n → IsCanonical fs q → pointwise int_eq (sum_charge fs own n) q ≡ pointwise int_eq n (remaining fs own q)
 test_remaining fs own n q g h k =

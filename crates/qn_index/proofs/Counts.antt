@@ -22,7 +22,8 @@ use Rattle.qn_index.specs.Tuples.{turned, signed, upward, count}
 use Rattle.qn_index.specs.Extents.{capped, entries, size_of}
 use Rattle.qn_index.specs.Weights.{WeightValue, weight, has_charge, moved, spread, remaining, IsRow, IsTable}
 use Rattle.qn_index.proofs.Shapes.{count_step}
-use Rattle.qn_index.proofs.Admitted.{same_tests, test_remaining, total_over, entries_step, mul_add}
+use Rattle.qn_index.proofs.Admitted.{test_remaining, total_over, entries_step, mul_add}
+use Rattle.qn_facts.proofs.Booleans.{same_tests}
 
 -- ---- numbers that are capped
 

@@ -3,7 +3,7 @@ use Rattle.std.proofs.Common.{◌≡◌, ℕ, zero, suc, ◌+◌, ◌*◌, ◌�
 use Rattle.std.specs.List.{All, flat_map}
 use Rattle.std.specs.Cmp.Lexicographic.{pointwise}
 use Rattle.std.specs.Ordering.{int_eq}
-use Rattle.std.proofs.lemmas.List.{append-nil, at_drop_more, drop_all}
+use Rattle.std.proofs.lemmas.List.{append-nil, at_drop_more, drop_all, map-append}
 use Rattle.std.proofs.lemmas.List.Elements.{All-nil, All-cons, All-append, All-tail, All-drop}
 use Rattle.qn_charge.specs.declared.factor.Factor.{Factor}
 use Rattle.qn_charge.specs.Charges.{zero_charge, neg_charge, IsCanonical, IsWithin, IsGroup}
@@ -27,13 +27,9 @@ pieces_append : {A B : Type 0} (f : A → List B) (xs ys : List A) → flat_map 
 pieces_append f [] ys = refl
 pieces_append f (x ∷ xs) ys = ap (λ zs. f x ++ zs) (pieces_append f xs ys) ∙ sym (append_assoc (f x) (flat_map f xs) (flat_map f ys))
 
-map_append : {A B : Type 0} (f : A → B) (xs ys : List A) → map f (xs ++ ys) ≡ map f xs ++ map f ys
-map_append f [] ys = refl
-map_append f (x ∷ xs) ys = ap (λ zs. f x ∷ zs) (map_append f xs ys)
-
 map_pieces : {A B : Type 0} (f : A → B) (h : ℕ → List A) (ss : List ℕ) → map f (flat_map h ss) ≡ flat_map (λ s. map f (h s)) ss
 map_pieces f h [] = refl
-map_pieces f h (s ∷ ss) = map_append f (h s) (flat_map h ss) ∙ ap (λ zs. map f (h s) ++ zs) (map_pieces f h ss)
+map_pieces f h (s ∷ ss) = map-append f (h s) (flat_map h ss) ∙ ap (λ zs. map f (h s) ++ zs) (map_pieces f h ss)
 
 put_after : (xs : List ℕ) (s : ℕ) (ts : List (List ℕ)) → map (λ t. (xs ++ s ∷ []) ++ t) ts ≡ map (λ t. xs ++ t) (map (λ t. s ∷ t) ts)
 put_after xs s [] = refl

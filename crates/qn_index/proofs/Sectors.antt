@@ -1,16 +1,14 @@
 -- Values of a leg, sector after sector.
 use Rattle.std.proofs.Common.{◌≡◌, ℕ, ℤ, zero, suc, ◌+◌, ◌≤◌, ◌<◌, ◌-◌, List, [], ◌∷◌, length, get_or, take, arith, refl, ap, ◌∙◌, sym, subst, cond, ltb, Bool, true, false, add-one, ◌^◌, ◌⊎◌, inl, inr, ⊎_elim}
-use Rattle.std.proofs.lemmas.List.{length-take, get_or-take, take_more_same, get_or_default}
+use Rattle.std.proofs.lemmas.List.{length-take, get_or-take, get_or_default}
 use Rattle.std.proofs.lemmas.Bool.Decides.{nat_tests}
-use Rattle.qn_index.specs.Legs.{SectorValue, before, total, no_sector, sector_at, sector_of, offset_in, HasDim, IsLeg, IsOf}
+use Rattle.qn_index.specs.Legs.{SectorValue, before, total, no_sector, sector_at, sector_of, offset_in, IsOf}
 use Rattle.qn_index.specs.Refusals.{BadDim}
 use Rattle.qn_charge.specs.Firsts.{HasNone, OutOfRange}
 use Rattle.qn_charge.specs.declared.factor.Factor.{Factor}
 use Rattle.qn_charge.specs.Charges.{IsCanonical, IsWithin}
 use Rattle.qn_charge.specs.Laws.{in_range}
-use Rattle.std.specs.List.{All}
-use Rattle.std.proofs.lemmas.List.Elements.{All-nil, All-cons}
-use Rattle.std.proofs.lemmas.Bool.{cases_lt, cases_eq, ltb-true, ltb-false}
+use Rattle.std.proofs.lemmas.Bool.{cases_lt, ltb-true, ltb-false}
 
 before_suc : (ps : List SectorValue) (i : ℕ) → i < length ps → before ps (suc i) ≡ before ps i + (sector_at ps i).dim
 before_suc [] i lt = absurd (omega arith)
@@ -74,39 +72,12 @@ read_in qs ps n i p d e le lt is f = let short : i < n = omega (arith, length-ta
 pub place_bound : (ps : List SectorValue) (i o : ℕ) → i < length ps → o < (sector_at ps i).dim → before ps i + o < total ps
 place_bound ps i o lt h = omega (arith, before_more ps i lt, before_le ps (i + 1))
 
--- the first i sectors of two lists are the same
-pub same_more : (a b : List SectorValue) (i : ℕ) (s t : SectorValue) → take i a ≡ take i b → i < length a → i < length b → s ≡ get_or a i s → t ≡ get_or b i t → s ≡ t → take (i + 1) a ≡ take (i + 1) b
-same_more a b i s t e p q is it h = take_more_same a b i no_sector p q e (sym (at_read a i s p is) ∙ (h ∙ at_read b i t q it))
-
-pub differ_at : (a b : List SectorValue) (i : ℕ) (s t : SectorValue) → i < length a → i < length b → s ≡ get_or a i s → t ≡ get_or b i t → a ≡ b → s ≡ t
-differ_at a b i s t p q is it e = at_read a i s p is ∙ (ap (λ ps. sector_at ps i) e ∙ sym (at_read b i t q it))
-
 -- what the code tests of a sector
 pub to_bad_dim : (ps : List SectorValue) (i sum d : ℕ) → IsRead ps i d → sum ≡ before ps i → (d ≡ 0) ⊎ (65536 < d) ⊎ (2 ^ 20 < sum + d) → BadDim ps i
 to_bad_dim ps i sum d r e h = (r.within, ⊎_elim (λ z. inl (omega (arith, r.dim))) (λ m. inr (⊎_elim (λ a. inl (omega (arith, r.dim))) (λ b. inr (omega (arith, r.next))) m)) h)
 
 pub from_bad_dim : (ps : List SectorValue) (i sum d : ℕ) → IsRead ps i d → sum ≡ before ps i → BadDim ps i → (d ≡ 0) ⊎ (65536 < d) ⊎ (2 ^ 20 < sum + d)
 from_bad_dim ps i sum d r e h = ⊎_elim (λ z. inl (omega (arith, r.dim))) (λ m. inr (⊎_elim (λ a. inl (omega (arith, r.dim))) (λ b. inr (omega (arith, r.next))) m)) h.1
-
-all_fit : (ps : List SectorValue) → ((i : ℕ) → i < length ps → HasDim (sector_at ps i)) → All HasDim ps
-all_fit [] h = All-nil HasDim
-all_fit (p ∷ ps) h = All-cons HasDim p ps (h 0 (omega arith)) (all_fit ps (λ i lt. h (suc i) (omega arith)))
-
-fits_at : (ps : List SectorValue) (i : ℕ) → HasNone (BadDim ps) → i < length ps → HasDim (sector_at ps i)
-fits_at ps i h lt = (
-  ⊎_elim (λ z. absurd (h i (lt, inl z))) (λ o. omega arith) (cases_eq (sector_at ps i).dim 0),
-  ⊎_elim (λ l. absurd (h i (lt, inr (inl l)))) (λ o. o) (cases_lt 65536 (sector_at ps i).dim),
-)
-
-total_fits : (ps : List SectorValue) → HasNone (BadDim ps) → 0 < length ps → total ps ≤ 2 ^ 20
-total_fits ps h some =
-    let last = length ps - 1 in
-    let n : last + 1 ≡ length ps = omega arith in
-    let all : before ps (last + 1) ≡ total ps = before_all ps (last + 1) (omega arith) in
-    ⊎_elim (λ over. absurd (h last (omega arith, inr (inr (omega arith))))) (λ o. o) (cases_lt (2 ^ 20) (total ps))
-
-pub is_leg_from : (ps : List SectorValue) → HasNone (BadDim ps) → 0 < length ps → length ps ≤ 64 → IsLeg ps
-is_leg_from ps h some few = record { some = some; few = few; dims = all_fit ps (λ i lt. fits_at ps i h lt); bound = total_fits ps h some }
 
 -- a value, taken apart and put together
 abbrev Placed : List SectorValue → ℕ → Type 0

@@ -1,3 +1,5 @@
+//! A leg: its arrow and its sectors; why sectors are no leg, and why two legs do not meet.
+
 ghost use Rattle.std.specs.Prelude.{◌≡◌, ◌<◌, ◌≤◌, ◌^◌, List, ℕ, length, IfOk, IfErr, IfNone, OnOk, MatchOption, ◌+◌, IsTrue, ◌↔◌, ◌⊎◌};
 ghost use Rattle.qn_index.specs.Legs.{LegValue, SectorValue, total, before, sector_at, sector_of, offset_in, IsLeg, IsOf, IsLegOf, IsSound, Meets, flipped};
 ghost use Rattle.qn_index.specs.Refusals.{IsFirstLegFault, BadCharge, BadDim};
@@ -5,8 +7,14 @@ ghost use Rattle.std.specs.List.{All};
 ghost use Rattle.qn_charge.specs.Firsts.{HasNone, IsFirst};
 
 use qn_charge::{Charge, Group};
-use std::alloc::AllocError;
+use std::alloc::{AllocError, Global};
 use std::marker::Model;
+
+/// The most sectors that a leg may have.
+pub const MAX_SECTORS: usize = 64;
+
+/// The greatest magnitude of a part of a charge on a leg.
+pub const MAX_CHARGE: i64 = 1_000_000_000;
 
 /// The arrow of a leg.
 #[derive(Clone, Copy, Debug, PartialEq, Eq)]
@@ -103,7 +111,7 @@ impl<const K: usize> Leg<K> {
         if sectors.is_empty() {
             return Err(LegFault::NoSector);
         }
-        if sectors.len() > 64 {
+        if sectors.len() > MAX_SECTORS {
             return Err(LegFault::TooManySectors);
         }
         let dim = total_of(&sectors);
@@ -238,8 +246,19 @@ impl<const K: usize> Leg<K> {
     }
 }
 
+/// Equal legs.
+pub fn copy_legs<const K: usize>(alloc: Global, legs: &[Leg<K>]) -> Result<Vec<Leg<K>>, AllocError>
+    ensures { IfOk result (λ v. v.items ≡ legs.now) }
+{
+    let mut copies = Vec::with_capacity(alloc, legs.len())?;
+    for leg in legs {
+        copies.push(leg.copy()?)?;
+    }
+    Ok(copies)
+}
+
 /// Whether two lists of sectors are the same.
-fn same_sectors<const K: usize>(a: &[Sector<K>], b: &[Sector<K>]) -> bool
+pub fn same_sectors<const K: usize>(a: &[Sector<K>], b: &[Sector<K>]) -> bool
     ensures { IsTrue result ↔ (a.now ≡ b.now) }
 {
     if a.len() != b.len() {
@@ -264,7 +283,7 @@ fn first_bad_charge<const K: usize>(group: &Group<K>, sectors: &[Sector<K>]) -> 
     for i in 0..sectors.len() {
         let s = &sectors[i];
         s.charge.known();
-        match group.out_of(&s.charge, 1_000_000_000) {
+        match group.out_of(&s.charge, MAX_CHARGE) {
             Some(_) => return Some(i),
             None => {}
         }

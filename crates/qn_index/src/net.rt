@@ -1,3 +1,5 @@
+//! The net charge of a tuple of sectors.
+
 ghost use Rattle.std.specs.Prelude.{◌≡◌, ◌<◌, ◌≤◌, ◌*◌, length};
 ghost use Rattle.std.specs.List.{All};
 ghost use Rattle.qn_charge.specs.Charges.{IsCanonical, IsWithin};

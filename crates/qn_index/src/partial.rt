@@ -108,7 +108,9 @@ fn add_extensions<const K: usize>(
 ) -> Result<(), AllocError>
     requires group { IsLegOf group.now leg.now }
     requires flux { IsChargeWithin (2 ^ 51) group.now partial.now.flux }
-    ensures { OnOk result (out.new.items ≡ out.old.items ++ extensions group.now leg.now table.now partial.now (upward 0 (length leg.now.sectors))) }
+    ensures { OnOk result (
+        out.new.items ≡
+        out.old.items ++ extensions group.now leg.now table.now partial.now (upward 0 (length leg.now.sectors))) }
 {
     leg.known();
     let sectors = leg.sectors().len() as u32;
@@ -129,7 +131,9 @@ pub(crate) fn extend<const K: usize>(
 ) -> Result<Vec<Partial<K>>, AllocError>
     requires group { IsLegOf group.now leg.now }
     requires fluxes { All (λ p. IsChargeWithin (2 ^ 51) group.now p.flux) partials.now }
-    ensures { IfOk result (λ v. v.items ≡ flat_map (λ p. extensions group.now leg.now table.now p (upward 0 (length leg.now.sectors))) partials.now) }
+    ensures { IfOk result (λ v.
+        v.items ≡
+        flat_map (λ p. extensions group.now leg.now table.now p (upward 0 (length leg.now.sectors))) partials.now) }
 {
     let mut out = Vec::new(alloc);
     for p in partials {

@@ -1,3 +1,5 @@
+//! The tuples that a flux admits, how many there are, and how many entries their blocks have.
+
 ghost use Rattle.std.specs.Prelude.{◌≡◌, ◌<◌, ◌≤◌, ◌^◌, ◌↔◌, ◌+◌, ◌*◌, length, IfOk, IsTrue};
 ghost use Rattle.std.specs.List.{All};
 ghost use Rattle.qn_index.specs.Legs.{IsLegOf};
@@ -11,6 +13,9 @@ use crate::table::tables_of;
 use crate::tuple::Tuple;
 use qn_charge::{Charge, Group};
 use std::alloc::{AllocError, Global};
+
+/// The most legs that a tensor may have.
+pub const MAX_LEGS: usize = 64;
 
 /// The most tuples of sectors that a shape may have.
 pub const MAX_TUPLES: u64 = 1 << 20;

@@ -247,7 +247,9 @@ pub(crate) fn tables_of<const K: usize>(
     requires few { length legs.now ≤ 64 }
     requires group { All (IsLegOf group.now) legs.now }
     ensures many { IfOk result (λ v. length v.items ≡ length legs.now + 1) }
-    ensures tables { IfOk result (λ v. (k : ℕ) → k ≤ length legs.now → IsTable group.now (drop k legs.now) (slice_index_or v.items (length legs.now - k) [])) }
+    ensures tables { IfOk result (λ v.
+        (k : ℕ) → k ≤ length legs.now →
+        IsTable group.now (drop k legs.now) (slice_index_or v.items (length legs.now - k) [])) }
 {
     let mut tables = Vec::new(alloc);
     tables.push(Table::end(alloc, group)?)?;

@@ -1,3 +1,5 @@
+//! Legs at fault, values and sectors, shapes with their limits, and offsets in a block.
+
 ghost use Rattle.std.specs.Prelude.{◌≡◌, ◌≤◌, ◌^◌, length, IfOk};
 ghost use Rattle.std.specs.List.{All};
 ghost use Rattle.qn_index.specs.Legs.{IsLegOf};

@@ -1,5 +1,5 @@
 -- The total charge of operators, operator by operator.
-use Rattle.std.proofs.Common.{◌≡◌, ℕ, ℤ, zero, suc, ◌+◌, ◌*◌, ◌≤◌, ◌<◌, ◌^◌, List, [], ◌∷◌, length, get_or, drop, arith, ap, ◌∙◌, sym, subst}
+use Rattle.std.proofs.Common.{◌≡◌, ℕ, ℤ, zero, suc, ◌+◌, ◌*◌, ◌≤◌, ◌<◌, List, [], ◌∷◌, length, get_or, drop, arith, ap, ◌∙◌, sym, subst}
 use Rattle.std.proofs.Math.ListN.{drop_of_length-le}
 use Rattle.std.proofs.lemmas.List.{get_or_default}
 use Rattle.qn_charge.specs.declared.factor.Factor as charge
@@ -41,9 +41,6 @@ factor_known v fs i f t lt e = subst (IsFactorOf v) (sym e) (t.known i f lt)
 pub op_of_sum : (v : SumValue) → AreSites v.group v.sites → (fs : List Factor) (i : ℕ) (f : Factor) → AreTermOf v fs → i < length fs → f ≡ get_or fs i f →
     IsCanonical v.group (op_charge v.sites f.site f.op) × IsWithin 10000000 v.group (op_charge v.sites f.site f.op)
 op_of_sum v h fs i f t lt e = op_fits v h f (factor_known v fs i f t lt e)
-
-pub sum_fits : (v : SumValue) (i : ℕ) (a b : List ℤ) → i ≤ 32 → IsWithin (10000000 * i) v.group a → IsWithin 10000000 v.group b → IsWithin (2 ^ 62) v.group (sum_charge v.group a b)
-sum_fits v i a b le x y = within_more (10000000 * i + 10000000) (2 ^ 62) v.group (sum_charge v.group a b) (omega arith) (within_sum (10000000 * i) 10000000 v.group a b x y)
 
 pub added_more : (v : SumValue) → AreSites v.group v.sites → (fs : List Factor) (i : ℕ) (f : Factor) (q : List ℤ) (sum new : List ℤ) → AreTermOf v fs → i < length fs → f ≡ get_or fs i f →
     q ≡ op_charge v.sites f.site f.op → IsAdded v fs i sum → new ≡ sum_charge v.group sum q → IsAdded v fs (i + 1) new

@@ -13,6 +13,7 @@ use Rattle.qn_auto.specs.Flux.{ops_at}
 use Rattle.qn_auto.specs.SumAutomaton.{made_of, sites_in, state_lower, terms_in}
 use Rattle.qn_auto.proofs.Stages.{in-stages}
 use Rattle.qn_mpo.specs.Rows.{begun_steps, steps_at, steps_from}
+use Rattle.qn_value.proofs.MagnitudeLemmas.{below_zero}
 
 -- ---- sums over lists
 
@@ -194,10 +195,6 @@ below_less (suc n) f g h = both (total_below n f) (total_below n g) (f n) (g n) 
   where
     both : (a b c d : ℕ) → a ≤ b → c ≤ d → a + c ≤ b + d
     both a b c d p q = omega arith
-
-below_zero : (n : ℕ) (f : ℕ → ℕ) → ((j : ℕ) → f j ≡ 0) → total_below n f ≡ 0
-below_zero zero f h = refl
-below_zero (suc n) f h = ap₂ (λ a b. a + b) (below_zero n f h) (h n)
 
 below_over : {X : Type 0} (n : ℕ) (f : ℕ → X → ℕ) (xs : List X) → total_below n (λ j. total_over xs (f j)) ≡ total_over xs (λ x. total_below n (λ j. f j x))
 below_over n f [] = below_zero n (λ j. 0) (λ j. refl)

@@ -1,8 +1,8 @@
 -- The transitions at a site conserve charge: off the flux of its tensor they are 0.
-use Rattle.std.proofs.Common.{◌≡◌, ℕ, ℤ, zero, suc, ◌+◌, ◌-◌, ◌<◌, ◌⊎◌, inl, inr, Bool, true, false, cond, List, [], ◌∷◌, length, get_or, map, refl, sym, ◌∙◌, ap, ap₂, subst, arith}
+use Rattle.std.proofs.Common.{◌≡◌, ℕ, ℤ, zero, suc, ◌+◌, ◌-◌, ◌<◌, ◌⊎◌, inl, inr, Bool, true, false, cond, List, [], ◌∷◌, length, get_or, refl, sym, ◌∙◌, ap, ap₂, subst, arith}
 use Rattle.std.specs.Prelude.{nat_lt}
 use Rattle.std.proofs.lemmas.Bool.Decides.{nat_tests}
-use Rattle.std.proofs.lemmas.List.{get_or-map, length-map}
+use Rattle.std.proofs.lemmas.List.{get_or-map}
 use Rattle.qn_gauss.specs.Gaussian.{zero_g}
 use Rattle.qn_charge.specs.declared.factor.Factor as charge
 use Rattle.qn_charge.specs.Charges.{IsCanonical, IsGroup, neg_charge, sum_charge, zero_charge}
@@ -16,7 +16,7 @@ use Rattle.qn_auto.specs.Automaton.{Stage, entry_from, stage_at, transition}
 use Rattle.qn_auto.specs.Automaton.Stage.{not_begun, done}
 use Rattle.qn_auto.specs.LinkOrder.{charges_of, repeated}
 use Rattle.qn_auto.specs.SumAutomaton.{charge_lower, entry_at_site, flux_at, is_last, legs_at, link_leg, op_charge, sites_in, state_charge, state_lower, states, terms_in}
-use Rattle.qn_auto.proofs.ChargeOrder.{charge_strict, sector_total}
+use Rattle.qn_auto.proofs.ChargeOrder.{charge_strict}
 use Rattle.qn_auto.proofs.Conserves.{has_charges, value_canonical, value_charge}
 use Rattle.qn_auto.proofs.FluxLaws.{IsAbelian, LiesFrom, charges_form_group, flux_law, left_lies}
 use Rattle.qn_auto.proofs.LinkOrderLaws.{sector_facts, stages_ascend}
@@ -24,6 +24,7 @@ use Rattle.qn_auto.proofs.Stages.{stage_at-in}
 use Rattle.qn_auto.proofs.Terms.{terms_have_flux}
 use Rattle.qn_mpo.specs.Rows.{dim_at}
 use Rattle.qn_mpo.proofs.Numbers.{stage_get}
+use Rattle.qn_mpo.proofs.Links.{link_total}
 
 -- ---- the charges of a link's values
 
@@ -62,13 +63,10 @@ charge_is (p ∷ ps) v lt = by (nat_lt v p.dim) refl (charge_is ps (v - p.dim)) 
     by true e ih = refl
     by false e ih = ih (left v p.dim (total ps) e lt)
 
-pub link_size : (v : SumValue) (j : ℕ) → total (link_leg v j).sectors ≡ length (states v j)
-link_size v j = sector_total charge_lower (map (state_charge v) (states v j)) ∙ length-map (states v j) (state_charge v)
-
 -- a value of a link has the charge of the state with its number
 link_charge : (v : SumValue) (j n : ℕ) → n < length (states v j) → charge_at (link_leg v j).sectors n ≡ state_charge v (stage_at (states v j) n)
 link_charge v j n lt =
-    charge_is (link_leg v j).sectors n (subst (λ k. n < k) (sym (link_size v j)) lt)
+    charge_is (link_leg v j).sectors n (subst (λ k. n < k) (sym (link_total v j)) lt)
     ∙ (ap (λ qs. get_or qs n []) (sector_facts charge_lower charge_strict (state_charge v) (states v j) (stages_ascend charge_lower charge_strict (state_charge v) (terms_in v) j)).1
     ∙ (get_or-map (state_charge v) (states v j) n done [] lt ∙ ap (state_charge v) (stage_get (states v j) n done lt)))
 
@@ -179,7 +177,7 @@ module _ (v : SumValue) (is : IsSum v) (j : ℕ) (within : j < length v.sites) w
     in_columns = h.1.0;
     entry = λ l. refl;
     net = (λ i. sum_charge fs (turned fs (out i) (value_charge v.sites j x)) (sum_charge fs (turned fs (other_way (out i)) (value_charge v.sites j y)) (sum_charge fs (neg_charge fs (charge_at (link_leg v j).sectors r)) (zero_charge fs))))
-        ∙ ap (λ q. sum_charge fs (value_charge v.sites j x) (sum_charge fs (neg_charge fs (value_charge v.sites j y)) (sum_charge fs (neg_charge fs q) (zero_charge fs)))) (link_charge v j r (subst (λ k. r < k) (link_size v j) h.1.1.0));
+        ∙ ap (λ q. sum_charge fs (value_charge v.sites j x) (sum_charge fs (neg_charge fs (value_charge v.sites j y)) (sum_charge fs (neg_charge fs q) (zero_charge fs)))) (link_charge v j r (subst (λ k. r < k) (link_total v j) h.1.1.0));
     canonical = (charges_form_group fs is.sites.group).sum_proper (neg_charge fs (state_charge v (stage_at (states v j) r))) (zero_charge fs);
     flux = back fs is.sites.group (state_charge v (stage_at (states v j) r));
   }
@@ -202,7 +200,7 @@ flux_or_zero v is (suc i) within (n ∷ xs) h = by (tells v is (suc i) within l 
     l = stage_at (states v i) n
 
     small : n < length (states v i)
-    small = subst (λ k. n < k) (link_size v i) h.0
+    small = subst (λ k. n < k) (link_total v i) h.0
 
     lies : LiesFrom (suc i) l
     lies = left_lies (state_lower v) (terms_in v) (suc i) l (stage_at-in (states v i) n small)

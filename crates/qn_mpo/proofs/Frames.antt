@@ -10,12 +10,12 @@ use Rattle.qn_index.specs.Tuples.{IsFlux}
 use Rattle.qn_block.specs.Blocked.{BlockedValue}
 use Rattle.qn_opsum.specs.Sums.{SumValue, no_site, site_at}
 use Rattle.qn_opsum.specs.Refusals.{IsSum}
-use Rattle.qn_opsum.proofs.Lookups.{one_more}
 use Rattle.qn_auto.specs.SumAutomaton.{HasShapeAt, IsWideAt, flux_at, is_last, left_legs, legs_at, link_leg, no_tensor, right_legs}
 use Rattle.qn_auto.proofs.Ordered.{all_from}
 use Rattle.qn_auto.proofs.Stages.{AllOf}
 use Rattle.qn_mpo.specs.Links.{AreEmpty, AreLinks, LinkValue, link_value}
 use Rattle.qn_mpo.proofs.Links.{Fits, link_charges}
+use Rattle.qn_facts.proofs.Numbers.{one_more}
 
 -- ---- one more element
 

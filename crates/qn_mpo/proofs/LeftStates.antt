@@ -28,8 +28,8 @@ use Rattle.qn_auto.proofs.Stages.{AllOf, all_done, stage_at-in}
 use Rattle.qn_auto.proofs.Terms.{terms_hold}
 use Rattle.qn_mpo.specs.Rows.{AreRows, IsRowFrom, PassesFrom, PassesHere, RowValue, dim_at, left_stages, no_row, own_legs, right_value, row_cell, steps_at, steps_from}
 use Rattle.qn_mpo.specs.States.{StateValue, with_charge}
-use Rattle.qn_mpo.proofs.Fluxes.{flux_or_zero, link_size}
-use Rattle.qn_mpo.proofs.Links.{drop_at, few_states, some_values, states_known}
+use Rattle.qn_mpo.proofs.Fluxes.{flux_or_zero}
+use Rattle.qn_mpo.proofs.Links.{drop_at, few_states, some_values, states_known, link_total}
 use Rattle.qn_mpo.proofs.Numbers.{stage_get}
 use Rattle.qn_mpo.proofs.Tables.{list_more, more_long, place_below, small_product, square_small}
 
@@ -134,7 +134,7 @@ last_done : (v : SumValue) → IsSum v → (j : ℕ) → is_last v j ≡ true �
 last_done v h j e = (some, only (stage_at (states v j) 0) (all_done (state_lower v) (length v.sites) j (reach j (length v.sites) e) (above j (length v.sites) e) (terms_in v) (below_all v h (terms_in v) (all_to (IsTermOf v) (terms_in v) (terms_hold v h))) (stage_at (states v j) 0) (stage_at-in (states v j) 0 some)))
   where
     some : 0 < length (states v j)
-    some = subst (λ n. 0 < n) (link_size v j) (some_values v h j)
+    some = subst (λ n. 0 < n) (link_total v j) (some_values v h j)
 
     reach : (j n : ℕ) → (suc j == n) ≡ true → n ≤ suc j
     reach j n e = grind (arith, nat_tests)
@@ -177,7 +177,7 @@ row_entry v h j l r xs x y vs row ex ey = go (is_last v j) refl xs vs ex ey
         at 0 c d last.0 hs.0 hs.1.0 p q ∙ ap (λ s. transition (sites_in v) (terms_in v) j l s c d) last.1
     go true e (c ∷ d ∷ z ∷ zs) hs p q = absurd (none_more z zs hs.1.1)
     go false e (c ∷ d ∷ []) hs p q = absurd hs.1.1
-    go false e (c ∷ d ∷ z ∷ zs) hs p q = at z c d (subst (λ k. z < k) (link_size v j) hs.1.1.0) hs.0 hs.1.0 p q
+    go false e (c ∷ d ∷ z ∷ zs) hs p q = at z c d (subst (λ k. z < k) (link_total v j) hs.1.1.0) hs.0 hs.1.0 p q
 
 -- the entry at values of all legs, at a site with a left one
 pub left_entry : (v : SumValue) (j n : ℕ) (xs : List ℕ) → 0 < j → IsValues (legs_at v j) (n ∷ xs) → (n < length (left_stages v j)) × IsValues (own_legs v j) xs
@@ -186,7 +186,7 @@ left_entry v zero n xs lt h = absurd (none lt)
   where
     none : 0 < 0 → ⊥
     none h = omega arith
-left_entry v (suc i) n xs lt h = (subst (λ k. n < k) (link_size v i) h.0, h.1, refl)
+left_entry v (suc i) n xs lt h = (subst (λ k. n < k) (link_total v i) h.0, h.1, refl)
 
 pub no_left_entry : (v : SumValue) (j : ℕ) (xs : List ℕ) → j ≡ 0 → IsValues (legs_at v j) xs → (0 < length (left_stages v j)) × IsValues (own_legs v j) xs
     × (entry_at_site v j xs ≡ entry_from (state_lower v) (sites_in v) (terms_in v) j (stage_at (left_stages v j) 0) xs)
@@ -284,7 +284,7 @@ own_values v h j xs vs = go (is_last v j) xs vs
     go true (x ∷ y ∷ []) hs = record { long = long 0; row = hs.0; column = hs.1.0; right = none }
     go true (x ∷ y ∷ z ∷ zs) hs = absurd (none_more z zs hs.1.1)
     go false (x ∷ y ∷ []) hs = absurd hs.1.1
-    go false (x ∷ y ∷ z ∷ zs) hs = record { long = long (suc (length zs)); row = hs.0; column = hs.1.0; right = small z (length (states v j)) (subst (λ k. z < k) (link_size v j) hs.1.1.0) (few_states v h j) }
+    go false (x ∷ y ∷ z ∷ zs) hs = record { long = long (suc (length zs)); row = hs.0; column = hs.1.0; right = small z (length (states v j)) (subst (λ k. z < k) (link_total v j) hs.1.1.0) (few_states v h j) }
 
 pub entry_read : (v : SumValue) → IsSum v → (j d : ℕ) (l : Stage) (r : RowValue) (xs : List ℕ) (x y : ℕ) → d ≡ dim_at v j → IsValues (own_legs v j) xs → IsRowFrom v j l r → x ≡ get_or xs 0 x → y ≡ get_or xs 1 y →
     row_cell (d * d) r (right_value xs) (x * d + y) ≡ entry_from (state_lower v) (sites_in v) (terms_in v) j l xs

@@ -1,10 +1,8 @@
 -- Links as the program makes them.
-use Rattle.std.proofs.Common.{◌≡◌, ℕ, ℤ, zero, suc, ◌+◌, ◌-◌, ◌^◌, ◌<◌, ◌≤◌, ◌⊎◌, inl, inr, Bool, true, false, cond, List, [], ◌∷◌, ◌++◌, length, get_or, drop, map, reverse, refl, sym, ◌∙◌, ap, ap₂, subst, arith}
+use Rattle.std.proofs.Common.{◌≡◌, ℕ, ℤ, zero, suc, ◌+◌, ◌-◌, ◌^◌, ◌<◌, ◌≤◌, ◌⊎◌, inl, inr, List, [], ◌∷◌, ◌++◌, length, get_or, drop, map, reverse, refl, sym, ◌∙◌, ap, subst, arith}
 use Rattle.std.specs.List.{All}
 use Rattle.std.specs.List.Sorted.{IsPermutation, IsSortedBy}
 use Rattle.std.specs.Cmp.{IsStrictWeakOrder}
-use Rattle.std.specs.Ordering.{is_lt}
-use Rattle.std.specs.declared.cmp.Ordering.TheVariants.{Less, Equal, Greater}
 use Rattle.std.proofs.lemmas.Bool.{cases_lt}
 use Rattle.std.proofs.lemmas.List.{reverse-append, reverse-reverse, length-map}
 use Rattle.std.proofs.lemmas.List.Sorted.{All-permutation, IsPermutation-reverse, sorted_far}
@@ -20,7 +18,7 @@ use Rattle.qn_opsum.specs.Sums.{SumValue, TermValue}
 use Rattle.qn_opsum.specs.Refusals.{IsSum}
 use Rattle.qn_opsum.proofs.Lookups.{some_terms}
 use Rattle.qn_auto.specs.Automaton.{Stage, Term, normal, stage, stages}
-use Rattle.qn_auto.specs.LinkOrder.{IsStrict, add_value, is_next, pushed, sectors_of, squeeze}
+use Rattle.qn_auto.specs.LinkOrder.{IsStrict, is_next, pushed, sectors_of, squeeze}
 use Rattle.qn_auto.specs.SumAutomaton.{charge_lower, link_leg, state_charge, sites_in, state_lower, states, term_in, terms_in}
 use Rattle.qn_auto.specs.Terms.{IsStageOf, IsTermOf}
 use Rattle.qn_auto.proofs.ChargeOrder.{charge_strict, dims_below, length_stages, sector_charges, sector_some, sector_total, some_stages}
@@ -29,7 +27,8 @@ use Rattle.qn_auto.proofs.Ordered.{In, all_from, all_to, link_from_sorted, risin
 use Rattle.qn_auto.proofs.Stages.{AllOf}
 use Rattle.qn_auto.proofs.Terms.{stage_fits, term_stage_known, terms_hold}
 use Rattle.qn_auto.specs.LinkOrder.{kind_lower}
-use Rattle.qn_mpo.specs.States.{StateValue, charges, order_by, value_lower, with_charge}
+use Rattle.qn_mpo.specs.States.{StateValue, charges, value_lower, with_charge}
+use Rattle.qn_index.proofs.Sectors.{before_le}
 
 -- ---- the order of states
 
@@ -47,22 +46,7 @@ value_strict = record {
 pub value_weak : IsStrictWeakOrder value_lower
 value_weak = strict_weak value_lower value_strict
 
-pub order_less : {A : Type 0} (lower : A → A → Bool) (x y : A) → is_lt (order_by lower x y) ≡ lower x y
-order_less lower x y = go (lower x y) (lower y x)
-  where
-    go : (b c : Bool) → is_lt (cond b Less (cond c Greater Equal)) ≡ b
-    go true c = refl
-    go false true = refl
-    go false false = refl
-
 -- ---- equal states once
-
-pub next_none : (out : List StateValue) (x : StateValue) → length out ≡ 0 → is_next value_lower out x ≡ true
-next_none [] x e = refl
-next_none (y ∷ ys) x e = absurd (none (length ys) e)
-  where
-    none : (n : ℕ) → suc n ≡ 0 → ⊥
-    none n e = omega arith
 
 pub next_last : (out : List StateValue) (x y : StateValue) → 0 < length out → y ≡ get_or out (length out - 1) y → is_next value_lower out x ≡ value_lower y x
 next_last [] x y lt e = absurd (none lt)
@@ -96,32 +80,6 @@ link_is v j raw sorted made e perm up m =
 
 -- ---- sectors, in reversed order
 
-abbrev one_value : List ℤ → SectorValue
-one_value q = record { charge = q; dim = 1 }
-
-reverse_push : {A : Type 0} (xs : List A) (x : A) → reverse (xs ++ (x ∷ [])) ≡ x ∷ reverse xs
-reverse_push xs x = reverse-append xs (x ∷ [])
-
-pub add_first : (q : List ℤ) (old new : List SectorValue) → old ≡ [] → new ≡ one_value q ∷ [] → reverse new ≡ add_value charge_lower q (reverse old)
-add_first q old new e n = ap reverse n ∙ sym (ap (λ zs. add_value charge_lower q (reverse zs)) e)
-
-pub add_before : (q : List ℤ) (old mid new : List SectorValue) (last : SectorValue) → old ≡ mid ++ (last ∷ []) → charge_lower q last.charge ≡ true → new ≡ (mid ++ (last ∷ [])) ++ (one_value q ∷ []) →
-    reverse new ≡ add_value charge_lower q (reverse old)
-add_before q old mid new last e t n =
-    ap reverse n ∙ (reverse_push (mid ++ (last ∷ [])) (one_value q) ∙ (ap (λ zs. one_value q ∷ zs) (reverse_push mid last)
-    ∙ sym (ap (λ zs. add_value charge_lower q (reverse zs)) e ∙ (ap (add_value charge_lower q) (reverse_push mid last)
-    ∙ ap (λ b. cond b (one_value q ∷ last ∷ reverse mid) (record { charge = last.charge; dim = suc last.dim } ∷ reverse mid)) t))))
-
-pub add_same : (q : List ℤ) (old mid new : List SectorValue) (last : SectorValue) (d : ℕ) → old ≡ mid ++ (last ∷ []) → charge_lower q last.charge ≡ false → d ≡ last.dim + 1 →
-    new ≡ mid ++ (record { charge = last.charge; dim = d } ∷ []) → reverse new ≡ add_value charge_lower q (reverse old)
-add_same q old mid new last d e t k n =
-    ap reverse n ∙ (reverse_push mid (record { charge = last.charge; dim = d }) ∙ (ap (λ m. record { charge = last.charge; dim = m } ∷ reverse mid) (k ∙ next last.dim)
-    ∙ sym (ap (λ zs. add_value charge_lower q (reverse zs)) e ∙ (ap (add_value charge_lower q) (reverse_push mid last)
-    ∙ ap (λ b. cond b (one_value q ∷ last ∷ reverse mid) (record { charge = last.charge; dim = suc last.dim } ∷ reverse mid)) t))))
-  where
-    next : (n : ℕ) → n + 1 ≡ suc n
-    next n = omega arith
-
 pub dims_fit : (qs : List (List ℤ)) (xs : List SectorValue) → length qs ≤ 2000 → reverse xs ≡ sectors_of charge_lower qs → All (λ (s : SectorValue). s.dim ≤ 4000000) xs
 dims_fit qs xs h e =
     subst (All (λ (s : SectorValue). s.dim ≤ 4000000)) (reverse-reverse xs)
@@ -149,15 +107,6 @@ drop_at (y ∷ ys) (suc k) x lt e = drop_at ys k x (less k (length ys) lt) e
     less : (k n : ℕ) → suc k < suc n → k < n
     less k n h = omega arith
 
-pub drop_back : {A : Type 0} (xs : List A) (i : ℕ) (x : A) → 0 < i → i ≤ length xs → x ≡ get_or xs (i - 1) x → drop (i - 1) xs ≡ x ∷ drop i xs
-drop_back xs i x lt le e = drop_at xs (i - 1) x (below i (length xs) lt le) e ∙ ap (λ k. x ∷ drop k xs) (same i lt)
-  where
-    below : (i n : ℕ) → 0 < i → i ≤ n → i - 1 < n
-    below i n h k = omega arith
-
-    same : (i : ℕ) → 0 < i → suc (i - 1) ≡ i
-    same i h = omega arith
-
 -- the charges of states from a place on are few
 pub few_left : (ss : List StateValue) (i : ℕ) → length ss ≤ 2000 → length (charges (drop i ss)) ≤ 2000
 few_left [] zero h = h
@@ -167,11 +116,6 @@ few_left (s ∷ ss) (suc i) h = few_left ss i (less (length ss) h)
   where
     less : (n : ℕ) → suc n ≤ 2000 → n ≤ 2000
     less n h = omega arith
-
-pub sectors_step : (ss : List StateValue) (i : ℕ) (s : StateValue) (q : List ℤ) (old new : List SectorValue) → 0 < i → i ≤ length ss → s ≡ get_or ss (i - 1) s → q ≡ s.charge →
-    reverse old ≡ sectors_of charge_lower (charges (drop i ss)) → reverse new ≡ add_value charge_lower q (reverse old) → reverse new ≡ sectors_of charge_lower (charges (drop (i - 1) ss))
-sectors_step ss i s q old new some le is e o n =
-    n ∙ (ap₂ (λ p zs. add_value charge_lower p zs) e o ∙ sym (ap (λ zs. sectors_of charge_lower (charges zs)) (drop_back ss i s some le is)))
 
 -- ---- the leg of a link
 
@@ -210,7 +154,7 @@ few_states v h j = by (cases_lt 2000 (length v.terms))
     by (inl lt) = absurd (h.count (inr lt))
     by (inr le) = omega (arith, many, le)
 
-link_total : (v : SumValue) (j : ℕ) → total (link_leg v j).sectors ≡ length (states v j)
+pub link_total : (v : SumValue) (j : ℕ) → total (link_leg v j).sectors ≡ length (states v j)
 link_total v j = sector_total charge_lower (map (state_charge v) (states v j)) ∙ length-map (states v j) (state_charge v)
 
 pub some_values : (v : SumValue) → IsSum v → (j : ℕ) → 0 < total (link_leg v j).sectors
@@ -222,15 +166,6 @@ some_values v h j = omega (arith, link_total v j, go v.terms (some_terms v.terms
     go : (ws : List TermValue) → 0 < length ws → 0 < length (stages (state_lower v) (map (λ w. normal (sites_in v) (term_in v.sites w)) ws) j)
     go [] lt = absurd (none lt)
     go (w ∷ ws) lt = some_stages (state_lower v) (normal (sites_in v) (term_in v.sites w)) (map (λ w. normal (sites_in v) (term_in v.sites w)) ws) j
-
-before_total : (ps : List SectorValue) (n : ℕ) → before ps n ≤ total ps
-before_total [] zero = omega arith
-before_total [] (suc n) = omega arith
-before_total (p ∷ ps) zero = omega arith
-before_total (p ∷ ps) (suc n) = more p.dim (before ps n) (total ps) (before_total ps n)
-  where
-    more : (d b t : ℕ) → b ≤ t → d + b ≤ d + t
-    more d b t h = omega arith
 
 -- the sectors of a link make a leg unless there are more than 64
 pub leg_fault : (v : SumValue) → IsSum v → (j : ℕ) (gs : List charge.Factor) (ps : List SectorValue) (e : LegFault) → gs ≡ v.group → ps ≡ (link_leg v j).sectors → IsFirstLegFault gs ps e → 64 < length (link_leg v j).sectors
@@ -251,7 +186,7 @@ leg_fault v h j gs ps e eg ep f = by e (subst (λ xs. IsFirstLegFault v.group xs
     bad_dim : (i : ℕ) → (i < length qs) × (((sector_at qs i).dim ≡ 0) ⊎ (65536 < (sector_at qs i).dim) ⊎ (2 ^ 20 < before qs (i + 1))) → ⊥
     bad_dim i (lt, inl z) = let d = dim_of i lt in omega (arith, d.0, z)
     bad_dim i (lt, inr (inl z)) = let d = dim_of i lt in omega (arith, d.1, z, small)
-    bad_dim i (lt, inr (inr z)) = omega (arith, before_total qs (i + 1), z, small)
+    bad_dim i (lt, inr (inr z)) = omega (arith, before_le qs (i + 1), z, small)
 
     bad_charge : (i : ℕ) → (i < length qs) × ((k : ℕ) × OutOfRange 1000000000 v.group (sector_at qs i).charge k) → ⊥
     bad_charge i b =

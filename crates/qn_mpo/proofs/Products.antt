@@ -1,10 +1,10 @@
 -- Products of the operators on a site, operator by operator.
-use Rattle.std.proofs.Common.{◌≡◌, ℕ, zero, suc, ◌+◌, ◌*◌, ◌≤◌, ◌<◌, ◌⊎◌, inl, inr, List, [], ◌∷◌, ◌++◌, length, get_or, take, drop, refl, sym, ◌∙◌, ap, ap₂, subst, arith}
+use Rattle.std.proofs.Common.{◌≡◌, ℕ, suc, ◌+◌, ◌*◌, ◌≤◌, ◌<◌, ◌⊎◌, inl, inr, List, [], ◌∷◌, ◌++◌, length, get_or, take, drop, refl, sym, ◌∙◌, ap, ap₂, subst, arith}
 use Rattle.std.specs.Prelude.{Err, IfErr, Ok, OnOk, Result}
 use Rattle.std.specs.List.{All}
 use Rattle.std.proofs.Math.Nat.{mul-le-mul_right}
 use Rattle.std.proofs.lemmas.List.{length-map, take-append-drop, take_all}
-use Rattle.qn_gauss.specs.Gaussian.{Gaussian, add_g, limit, mag, mul_g}
+use Rattle.qn_gauss.specs.Gaussian.{Gaussian, limit, mag, mul_g}
 use Rattle.qn_index.specs.Legs.{total}
 use Rattle.qn_value.specs.Networks.{sum_below}
 use Rattle.qn_value.specs.Magnitudes.{total_below}
@@ -22,28 +22,10 @@ use Rattle.qn_mpo.specs.declared.fault.Stop.TheVariants.{Passes, Memory}
 use Rattle.qn_mpo.proofs.Lists.{take_next}
 use Rattle.qn_mpo.specs.States.{with_charge}
 use Rattle.qn_mpo.proofs.Links.{drop_at, few_made}
+use Rattle.qn_value.proofs.BlockSums.{sum_below-congr}
+use Rattle.qn_value.proofs.NumberingLemmas.{total_below-congr}
 
 -- ---- sums that agree in range
-
-sum_agree : (n : ℕ) (f g : ℕ → Gaussian) → ((v : ℕ) → v < n → f v ≡ g v) → sum_below n f ≡ sum_below n g
-sum_agree zero f g h = refl
-sum_agree (suc n) f g h = ap₂ add_g (sum_agree n f g (λ v lt. h v (wider v n lt))) (h n (last n))
-  where
-    wider : (v n : ℕ) → v < n → v < suc n
-    wider v n h = omega arith
-
-    last : (n : ℕ) → n < suc n
-    last n = omega arith
-
-total_agree : (n : ℕ) (f g : ℕ → ℕ) → ((v : ℕ) → v < n → f v ≡ g v) → total_below n f ≡ total_below n g
-total_agree zero f g h = refl
-total_agree (suc n) f g h = ap₂ ◌+◌ (total_agree n f g (λ v lt. h v (wider v n lt))) (h n (last n))
-  where
-    wider : (v n : ℕ) → v < n → v < suc n
-    wider v n h = omega arith
-
-    last : (n : ℕ) → n < suc n
-    last n = omega arith
 
 pub large_agree : (d : ℕ) (f g : ℕ → ℕ → ℕ) → ((x y : ℕ) → x < d → y < d → f x y ≡ g x y) → IsLarge d f → IsLarge d g
 large_agree d f g h l =
@@ -88,12 +70,12 @@ product_first S k d first os t h = record { table = h; clear = λ p. p }
 module _ (S : Sites) (k d : ℕ) (same : d ≡ S.dim k) (p : ℕ → ℕ → Gaussian) (o : ℕ) (left right : List Gaussian) (made : IsTableOf d p left) (op : IsTableOf d (S.table k o) right) where
   entry_is : (x y : ℕ) → x < d → y < d → entry_sum d left right x y ≡ times_op S k p o x y
   entry_is x y hx hy =
-      sum_agree d (λ v. mul_g (cell d left x v) (cell d right v y)) (λ v. mul_g (p x v) (S.table k o v y)) (λ v lt. ap₂ mul_g (made.entries x v hx lt) (op.entries v y lt hy))
+      sum_below-congr d (λ v. mul_g (cell d left x v) (cell d right v y)) (λ v. mul_g (p x v) (S.table k o v y)) (λ v lt. ap₂ mul_g (made.entries x v hx lt) (op.entries v y lt hy))
       ∙ ap (λ n. sum_below n (λ v. mul_g (p x v) (S.table k o v y))) same
 
   size_is : (x y : ℕ) → x < d → y < d → entry_size d left right x y ≡ product_size S k p o x y
   size_is x y hx hy =
-      total_agree d (λ v. mag (cell d left x v) * mag (cell d right v y)) (λ v. mag (p x v) * mag (S.table k o v y)) (λ v lt. ap₂ (λ a b. mag a * mag b) (made.entries x v hx lt) (op.entries v y lt hy))
+      total_below-congr d (λ v. mag (cell d left x v) * mag (cell d right v y)) (λ v. mag (p x v) * mag (S.table k o v y)) (λ v lt. ap₂ (λ a b. mag a * mag b) (made.entries x v hx lt) (op.entries v y lt hy))
       ∙ ap (λ n. total_below n (λ v. mag (p x v) * mag (S.table k o v y))) same
 
   times_table : (t : List Gaussian) → IsTableOf d (entry_sum d left right) t → IsTableOf d (times_op S k p o) t
@@ -170,15 +152,6 @@ if_err f (Err e) p = stop_as f e p
 
 pub more_steps : (old new k : ℕ) (os qs : List ℕ) → os ≡ qs → new ≤ old + length os * k → new ≤ old + length qs * k
 more_steps old new k os qs e h = subst (λ (zs : List ℕ). new ≤ old + length zs * k) e h
-
-pub next_steps : (start old new n k : ℕ) → old ≤ start + n * k → new ≤ old + k → new ≤ start + (n + 1) * k
-next_steps start old new n k h m = subst (λ e. new ≤ start + e) (sym (more n k)) (sum (n * k) h m)
-  where
-    more : (n k : ℕ) → (n + 1) * k ≡ n * k + k
-    more n k = search arith
-
-    sum : (a : ℕ) → old ≤ start + a → new ≤ old + k → new ≤ start + (a + k)
-    sum a p q = omega (arith, p, q)
 
 pub within_steps : (start old m n k : ℕ) → old ≤ start + m * k → m ≤ n → old ≤ start + n * k
 within_steps start old m n k h l = sum (m * k) (n * k) h (mul-le-mul_right k l)

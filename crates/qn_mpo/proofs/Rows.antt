@@ -23,6 +23,7 @@ use Rattle.qn_mpo.specs.Rows.{IsRowFrom, IsScene, PassesFrom, RowValue, SceneVal
 use Rattle.qn_mpo.specs.Tables.{IsTableOf, cell}
 use Rattle.qn_mpo.proofs.Numbers.{differs, is_number}
 use Rattle.qn_mpo.proofs.Tables.{place_below}
+use Rattle.qn_value.proofs.BlockSums.{lt_true}
 
 -- ---- the operators of a term on a site
 
@@ -111,9 +112,6 @@ later_clear v j fs os d t e ed h fits none (inr p) =
 
 -- ---- rows of one table, and of none
 
-below : (m n : ℕ) → m < n → nat_lt m n ≡ true
-below m n h = grind (arith, nat_tests)
-
 not_below : (m n : ℕ) → n ≤ m → nat_lt m n ≡ false
 not_below m n h = grind (arith, nat_tests)
 
@@ -173,7 +171,7 @@ one_cell size first m place t full = by (cases_lt m first) (cases_lt first m)
 
     before : m < first → row_cell size Row m place ≡ cond (m == first) (get_or t place zero_g) zero_g
     before lt =
-        ap (λ b. cond b zero_g (get_or t ((m - first) * size + place) zero_g)) (below m first lt)
+        ap (λ b. cond b zero_g (get_or t ((m - first) * size + place) zero_g)) (lt_true m first lt)
         ∙ sym (ap (λ b. cond b (get_or t place zero_g) zero_g) (apart m first (λ e. differ m first lt e)))
       where
         differ : (a b : ℕ) → a < b → a ≡ b → ⊥
@@ -247,7 +245,7 @@ begun_within S j w d os old mid new k b ed eo h more small =
 -- ---- cells before the first table
 
 pub cell_before : (size : ℕ) (r : RowValue) (n place : ℕ) → n < r.first → zero_g ≡ row_cell size r n place
-cell_before size r n place lt = sym (ap (λ b. cond b zero_g (get_or r.entries ((n - r.first) * size + place) zero_g)) (below n r.first lt))
+cell_before size r n place lt = sym (ap (λ b. cond b zero_g (get_or r.entries ((n - r.first) * size + place) zero_g)) (lt_true n r.first lt))
 
 -- ---- the terms of a scene
 

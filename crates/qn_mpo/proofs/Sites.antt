@@ -4,9 +4,9 @@ use Rattle.std.proofs.lemmas.List.{length_push}
 use Rattle.qn_block.specs.Blocked.{BlockedValue}
 use Rattle.qn_charge.specs.Firsts.{HasNone}
 use Rattle.qn_opsum.specs.Sums.{SumValue}
-use Rattle.qn_opsum.proofs.Lookups.{one_more}
 use Rattle.qn_auto.specs.SumAutomaton.{IsAutomatonOf, IsTensorAt, PassesAt, no_tensor, tensor_at}
 use Rattle.qn_mpo.proofs.Frames.{push_at}
+use Rattle.qn_facts.proofs.Numbers.{one_more}
 
 -- the tensors of the first n sites, none of which passes
 pub record AreBuilt (v : SumValue) (n : ℕ) (ts : List BlockedValue) : Type 0 where

@@ -1,3 +1,5 @@
+//! The chain of the automaton of a sum: built with its entries, or its shape alone.
+
 ghost use Rattle.std.specs.Prelude.{◌≡◌, ◌<◌, ◌≤◌, ◌+◌, ◌⊎◌, ℕ, List, length, slice_index_or, IfOk, IfErr, OnOk};
 ghost use Rattle.qn_charge.specs.Firsts.{HasNone};
 ghost use Rattle.qn_index.specs.Places.{IsValues};
@@ -70,7 +72,8 @@ pub fn skeleton<const K: usize>(alloc: Global, sum: &OpSum<K>) -> Result<Chain<K
     Ok(chain)
 }
 
-/// The automaton of an operator sum as a chain of tensors, whose entries come from one rule for each operator. Its matrix elements are those of the sum.
+/// The automaton of an operator sum as a chain of tensors, whose entries come from one rule for each operator. Its
+/// matrix elements are those of the sum.
 pub fn build<const K: usize, F: EntryFunction, L: Ledger>(
     alloc: Global,
     sum: &OpSum<K>,
@@ -78,9 +81,12 @@ pub fn build<const K: usize, F: EntryFunction, L: Ledger>(
     steps: &mut Steps<L>,
 ) -> Result<Chain<K>, BuildFault>
     requires count { length rules.now ≡ length sum.now.sites }
-    requires rules { (j : ℕ) (d : _) → j < length rules.now → AnswersSite F.answers (site_at sum.now.sites j) (slice_index_or rules.now j d).items }
+    requires rules { (j : ℕ) (d : _) → j < length rules.now →
+        AnswersSite F.answers (site_at sum.now.sites j) (slice_index_or rules.now j d).items }
     ensures ok { IfOk result (IsBuilt sum.now) }
-    ensures elements { IfOk result (λ c. (u s : List ℕ) → IsValues (site_legs sum.now) u → IsValues (site_legs sum.now) s → element c.group c.tensors u s ≡ sum_element sum.now u s) }
+    ensures elements { IfOk result (λ c.
+        (u s : List ℕ) → IsValues (site_legs sum.now) u → IsValues (site_legs sum.now) s →
+        element c.group c.tensors u s ≡ sum_element sum.now u s) }
     ensures clear { OnOk result (HasNone (IsWideAt sum.now) × HasNone (PassesAt sum.now)) }
     ensures err { IfErr result (IsBuildFault sum.now) }
     ensures ticks { (steps.new ≡ steps.old) ⊎ (HasNone (IsWideAt sum.now) × (steps.new ≤ steps.old + made_of sum.now)) }

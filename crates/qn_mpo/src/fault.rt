@@ -1,3 +1,5 @@
+//! Why an automaton can't be built.
+
 use std::alloc::{AllocError, AllocFailed};
 use thiserror::Error;
 

@@ -33,7 +33,9 @@ fn is_last<const K: usize>(sum: &OpSum<K>, j: u32) -> bool
 
 /// Adds the leg left of the site after these links, the flip of the last link's; the first site has none.
 fn add_left<const K: usize>(links: &[Link<K>], legs: &mut Vec<Leg<K>>) -> Result<(), AllocError>
-    ensures { OnOk result ((v : SumValue) → AreLinks v (length links.now) links.now → legs.new.items ≡ legs.old.items ++ left_legs v (length links.now)) }
+    ensures { OnOk result (
+        (v : SumValue) → AreLinks v (length links.now) links.now →
+        legs.new.items ≡ legs.old.items ++ left_legs v (length links.now)) }
 {
     let count = links.len();
     if count == 0 {

@@ -1,4 +1,6 @@
 //! The automaton of an operator sum as a chain of tensors.
+//!
+//! For the commands `mpo` and `expect`. It hands on the chain with its entries, and its shape alone.
 #![tactic(auto)]
 
 mod chain;

@@ -39,7 +39,8 @@ fn product_entry<L: Ledger>(
     requires small { dim ≤ 64 }
     requires row { row < dim }
     requires column { column < dim }
-    ensures value { MatchOption result (limit < entry_size dim left.now right.now row column) (λ z. (z ≡ entry_sum dim left.now right.now row column) × (entry_size dim left.now right.now row column ≤ limit)) }
+    ensures value { MatchOption result (limit < entry_size dim left.now right.now row column) (λ z.
+        (z ≡ entry_sum dim left.now right.now row column) × (entry_size dim left.now right.now row column ≤ limit)) }
     ensures ticks { steps.new ≤ steps.old + dim }
 {
     let mut sum = Sum::ZERO;
@@ -88,7 +89,9 @@ fn product_from<const K: usize, L: Ledger>(
 ) -> Result<Table, Stop>
     requires first { first < length scene.now.tables }
     requires later { All (λ o. o < length scene.now.tables) later.now }
-    ensures ok { IfOk result (IsTableOf scene.now.dim (matrix (sites_in scene.now.sum) (on_site scene.now.site (first ∷ later.now)) scene.now.site)) }
+    ensures ok { IfOk result (
+        IsTableOf scene.now.dim (
+        matrix (sites_in scene.now.sum) (on_site scene.now.site (first ∷ later.now)) scene.now.site)) }
     ensures none { OnOk result (ProductPasses (sites_in scene.now.sum) scene.now.site (first ∷ later.now) → ⊥) }
     ensures err { IfErr result (IsStop (ProductPasses (sites_in scene.now.sum) scene.now.site (first ∷ later.now))) }
     ensures ticks { steps.new ≤ steps.old + length later.now * (scene.now.dim * scene.now.dim * scene.now.dim) }
@@ -115,7 +118,8 @@ pub(crate) fn product<const K: usize, L: Ledger>(
     steps: &mut Steps<L>,
 ) -> Result<Table, Stop>
     requires { All (λ o. o < length scene.now.tables) ops.now }
-    ensures ok { IfOk result (IsTableOf scene.now.dim (matrix (sites_in scene.now.sum) (on_site scene.now.site ops.now) scene.now.site)) }
+    ensures ok { IfOk result (
+        IsTableOf scene.now.dim (matrix (sites_in scene.now.sum) (on_site scene.now.site ops.now) scene.now.site)) }
     ensures none { OnOk result (ProductPasses (sites_in scene.now.sum) scene.now.site ops.now → ⊥) }
     ensures err { IfErr result (IsStop (ProductPasses (sites_in scene.now.sum) scene.now.site ops.now)) }
     ensures ticks { steps.new ≤ steps.old + length ops.now * (scene.now.dim * scene.now.dim * scene.now.dim) }

@@ -64,7 +64,8 @@ impl Row {
 /// Where a state stands in a list in order.
 fn place_of<const K: usize>(states: &[State<K>], state: &State<K>) -> Option<usize>
     requires { IsAscending value_lower states.now }
-    ensures { MatchOption result ((i : ℕ) → i < length states.now → slice_index_or states.now i state.now ≢ state.now) (λ i. (i < length states.now) × (slice_index_or states.now i state.now ≡ state.now)) }
+    ensures { MatchOption result ((i : ℕ) → i < length states.now → slice_index_or states.now i state.now ≢ state.now) (λ i.
+        (i < length states.now) × (slice_index_or states.now i state.now ≡ state.now)) }
 {
     let found = states.binary_search_by(
         |other: &State<K>| -> Ordering
@@ -80,7 +81,9 @@ fn place_of<const K: usize>(states: &[State<K>], state: &State<K>) -> Option<usi
 /// The number of a state right of the site.
 fn number_of<const K: usize>(scene: &Scene<'_, K>, stage: Stage) -> Option<usize>
     requires { IsStageOf scene.now.sum stage }
-    ensures { MatchOption result (is_in same_stage stage (states scene.now.sum scene.now.site) ≡ false) (λ n. (n < length (states scene.now.sum scene.now.site)) × (stage_at (states scene.now.sum scene.now.site) n ≡ stage)) }
+    ensures { MatchOption result (is_in same_stage stage (states scene.now.sum scene.now.site) ≡ false) (λ n.
+        (n < length (states scene.now.sum scene.now.site)) ×
+        (stage_at (states scene.now.sum scene.now.site) n ≡ stage)) }
 {
     scene.known();
     let state = charged(scene.sum(), stage);
@@ -98,7 +101,8 @@ fn later_row<const K: usize, L: Ledger>(
     ensures ok { IfOk result (IsRowFrom scene.now.sum scene.now.site (to_come rest.now)) }
     ensures none { OnOk result (PassesFrom scene.now.sum scene.now.site (to_come rest.now) → ⊥) }
     ensures err { IfErr result (IsStop (PassesFrom scene.now.sum scene.now.site (to_come rest.now))) }
-    ensures ticks { steps.new ≤ steps.old + length (ops_at scene.now.site rest.now) * (scene.now.dim * scene.now.dim * scene.now.dim) }
+    ensures ticks { steps.new ≤ steps.old + length (ops_at scene.now.site rest.now) * (
+        scene.now.dim * scene.now.dim * scene.now.dim) }
 {
     scene.known();
     let ops = ops_at(alloc, scene.site(), rest)?;
@@ -153,11 +157,17 @@ fn add_begun<const K: usize, L: Ledger>(
 ) -> Result<(), Stop>
     requires known { AreTermOf scene.now.sum term.now.factors }
     requires begins { begin term.now.factors ≡ scene.now.site }
-    requires count { length sums.old ≡ length (states scene.now.sum scene.now.site) * (dim_at scene.now.sum scene.now.site * dim_at scene.now.sum scene.now.site) }
-    ensures ok { OnOk result (HaveTerm (sites_in scene.now.sum) scene.now.site (states scene.now.sum scene.now.site) term.now sums.old sums.new) }
+    requires count { length sums.old ≡
+        length (states scene.now.sum scene.now.site) * (
+        dim_at scene.now.sum scene.now.site * dim_at scene.now.sum scene.now.site) }
+    ensures ok { OnOk result (
+        HaveTerm (sites_in scene.now.sum) scene.now.site (states scene.now.sum scene.now.site) term.now sums.old sums.new) }
     ensures length { length sums.new ≡ length sums.old }
     ensures none { OnOk result (ProductPasses (sites_in scene.now.sum) scene.now.site (ops_at scene.now.site term.now.factors) → ⊥) }
-    ensures err { IfErr result (IsStop (ProductPasses (sites_in scene.now.sum) scene.now.site (ops_at scene.now.site term.now.factors) ⊎ TermPasses (sites_in scene.now.sum) scene.now.site (states scene.now.sum scene.now.site) term.now sums.old)) }
+    ensures err { IfErr result (
+        IsStop (
+        ProductPasses (sites_in scene.now.sum) scene.now.site (ops_at scene.now.site term.now.factors) ⊎
+        TermPasses (sites_in scene.now.sum) scene.now.site (states scene.now.sum scene.now.site) term.now sums.old)) }
     ensures ticks { steps.new ≤ steps.old + begun_steps (sites_in scene.now.sum) scene.now.site term.now }
 {
     scene.known();
@@ -189,11 +199,22 @@ fn add_term<const K: usize, L: Ledger>(
     steps: &mut Steps<L>,
 ) -> Result<(), Stop>
     requires known { AreTermOf scene.now.sum term.now.factors }
-    requires count { length sums.old ≡ length (states scene.now.sum scene.now.site) * (dim_at scene.now.sum scene.now.site * dim_at scene.now.sum scene.now.site) }
-    ensures ok { OnOk result (HaveTerm (sites_in scene.now.sum) scene.now.site (states scene.now.sum scene.now.site) term.now sums.old sums.new) }
+    requires count { length sums.old ≡
+        length (states scene.now.sum scene.now.site) * (
+        dim_at scene.now.sum scene.now.site * dim_at scene.now.sum scene.now.site) }
+    ensures ok { OnOk result (
+        HaveTerm (sites_in scene.now.sum) scene.now.site (states scene.now.sum scene.now.site) term.now sums.old sums.new) }
     ensures length { length sums.new ≡ length sums.old }
-    ensures none { OnOk result ((begin term.now.factors ≡ scene.now.site) × ProductPasses (sites_in scene.now.sum) scene.now.site (ops_at scene.now.site term.now.factors) → ⊥) }
-    ensures err { IfErr result (IsStop (((begin term.now.factors ≡ scene.now.site) × ProductPasses (sites_in scene.now.sum) scene.now.site (ops_at scene.now.site term.now.factors)) ⊎ TermPasses (sites_in scene.now.sum) scene.now.site (states scene.now.sum scene.now.site) term.now sums.old)) }
+    ensures none { OnOk result (
+        (begin term.now.factors ≡ scene.now.site) ×
+        ProductPasses (sites_in scene.now.sum) scene.now.site (ops_at scene.now.site term.now.factors) →
+        ⊥) }
+    ensures err { IfErr result (
+        IsStop (
+        (
+        (begin term.now.factors ≡ scene.now.site) ×
+        ProductPasses (sites_in scene.now.sum) scene.now.site (ops_at scene.now.site term.now.factors)) ⊎
+        TermPasses (sites_in scene.now.sum) scene.now.site (states scene.now.sum scene.now.site) term.now sums.old)) }
     ensures ticks { steps.new ≤ steps.old + begun_steps (sites_in scene.now.sum) scene.now.site term.now }
 {
     if begin(term.factors()) != scene.site() {
@@ -204,7 +225,8 @@ fn add_term<const K: usize, L: Ledger>(
 
 /// The number of the state not begun, or the number of all states where it is none of them.
 fn waiting_of<const K: usize>(alloc: Global, scene: &Scene<'_, K>) -> usize
-    ensures { (n : ℕ) → n < length (states scene.now.sum scene.now.site) → same_stage not_begun (stage_at (states scene.now.sum scene.now.site) n) ≡ (n == result) }
+    ensures { (n : ℕ) → n < length (states scene.now.sum scene.now.site) →
+        same_stage not_begun (stage_at (states scene.now.sum scene.now.site) n) ≡ (n == result) }
 {
     scene.known();
     match number_of(scene, Stage::not_begun(alloc)) {
@@ -229,7 +251,8 @@ fn first_sum(dim: usize, waits: bool, place: usize) -> Sum
 
 /// The sums of the transitions from not begun before any term is added.
 fn first_sums<const K: usize>(alloc: Global, scene: &Scene<'_, K>) -> Result<Vec<Sum>, AllocError>
-    ensures { IfOk result (λ ss. AreFirst (dim_at scene.now.sum scene.now.site) (states scene.now.sum scene.now.site) ss.items) }
+    ensures { IfOk result (λ ss.
+        AreFirst (dim_at scene.now.sum scene.now.site) (states scene.now.sum scene.now.site) ss.items) }
 {
     scene.known();
     let dim = scene.dim();

@@ -45,7 +45,9 @@ pub fn operator_rules<const K: usize>(
     sum: &OpSum<K>,
 ) -> Result<Vec<Vec<Rule<K, OpTable<K>>>>, AllocError>
     ensures count { IfOk result (λ all. length all.items ≡ length sum.now.sites) }
-    ensures rules { IfOk result (λ all. (j : ℕ) (d : _) → j < length all.items → AnswersSite operator_answers (site_at sum.now.sites j) (slice_index_or all.items j d).items) }
+    ensures rules { IfOk result (λ all.
+        (j : ℕ) (d : _) → j < length all.items →
+        AnswersSite operator_answers (site_at sum.now.sites j) (slice_index_or all.items j d).items) }
 {
     sum.known();
     let all = all_rules(alloc, sum.sites())?;

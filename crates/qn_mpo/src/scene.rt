@@ -31,7 +31,8 @@ impl<'a, const K: usize> Model for Scene<'a, K> {
 
     ghost view = { λ s. record { sum = s.sum.now; terms = s.terms.now; site = s.site; dim = s.dim; tables = s.tables.now; rights = s.rights.now } };
 
-    ghost invariant = { λ s. IsScene (record { sum = s.sum.now; terms = s.terms.now; site = s.site; dim = s.dim; tables = s.tables.now; rights = s.rights.now }) };
+    ghost invariant = { λ s. IsScene (
+        record { sum = s.sum.now; terms = s.terms.now; site = s.site; dim = s.dim; tables = s.tables.now; rights = s.rights.now }) };
 }
 
 impl<'a, const K: usize> Scene<'a, K> {

@@ -41,7 +41,8 @@ fn lefts_of<'a, const K: usize>(
     site: u32,
 ) -> &'a [State<K>]
     requires { site ≤ length links.now }
-    ensures { (v : SumValue) → AreLinks v (length links.now) links.now → start.now ≡ map (with_charge v) (not_begun ∷ []) → result.now ≡ map (with_charge v) (left_stages v site) }
+    ensures { (v : SumValue) → AreLinks v (length links.now) links.now → start.now ≡ map (with_charge v) (not_begun ∷ []) →
+        result.now ≡ map (with_charge v) (left_stages v site) }
 {
     if site == 0 {
         return start;
@@ -120,7 +121,8 @@ pub(crate) fn tensors_of<const K: usize, F: EntryFunction, L: Ledger>(
 ) -> Result<Vec<BlockTensor<K>>, BuildFault>
     requires terms { terms.now ≡ terms_in sum.now }
     requires count { length rules.now ≡ length sum.now.sites }
-    requires rules { (j : ℕ) (d : _) → j < length rules.now → AnswersSite F.answers (site_at sum.now.sites j) (slice_index_or rules.now j d).items }
+    requires rules { (j : ℕ) (d : _) → j < length rules.now →
+        AnswersSite F.answers (site_at sum.now.sites j) (slice_index_or rules.now j d).items }
     requires links { AreLinks sum.now (length sum.now.sites) frame.now.links.items }
     requires tensors { AreEmpty sum.now (length sum.now.sites) frame.now.tensors.items }
     ensures ok { IfOk result (λ v. IsAutomatonOf sum.now v.items) }

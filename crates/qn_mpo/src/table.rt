@@ -103,7 +103,8 @@ fn asked<const K: usize, F: EntryFunction>(
 ) -> Result<Table, AllocError>
     requires small { dim ≤ 64 }
     requires rows { (x y : ℕ) → x < dim → y < dim → IsValues rule.now.legs (x ∷ y ∷ []) }
-    requires entries { (x y : ℕ) (z : Gaussian) → x < dim → y < dim → F.answers rule.now.function (x ∷ y ∷ []) z → z ≡ element op.now x y }
+    requires entries { (x y : ℕ) (z : Gaussian) → x < dim → y < dim → F.answers rule.now.function (x ∷ y ∷ []) z →
+        z ≡ element op.now x y }
     ensures { IfOk result (IsTableOf dim (element op.now)) }
 {
     let mut entries = Vec::with_capacity(alloc, dim as usize * dim as usize)?;

@@ -58,7 +58,9 @@ fn right_of(values: &[u32]) -> usize
 /// The entry at the values of the legs s', s, right, from one state.
 fn entry_from<const K: usize>(scene: &Scene<'_, K>, row: &Row, values: &[u32]) -> Gauss
     requires values { IsValues (own_legs scene.now.sum scene.now.site) values.now }
-    ensures { (l : Stage) → IsRowFrom scene.now.sum scene.now.site l row.now → result ≡ entry_from (state_lower scene.now.sum) (sites_in scene.now.sum) (terms_in scene.now.sum) scene.now.site l values.now }
+    ensures { (l : Stage) → IsRowFrom scene.now.sum scene.now.site l row.now →
+        result ≡
+        entry_from (state_lower scene.now.sum) (sites_in scene.now.sum) (terms_in scene.now.sum) scene.now.site l values.now }
 {
     scene.known();
     let dim = scene.dim();

@@ -1,3 +1,5 @@
+//! The automata of worked sums, sums that pass the limit, and widths of links.
+
 ghost use Rattle.std.specs.Prelude.{◌≡◌, ◌<◌, ◌≤◌, length, IfOk};
 ghost use Rattle.std.specs.List.{All};
 ghost use Rattle.qn_sites.specs.Sites.{SiteValue};

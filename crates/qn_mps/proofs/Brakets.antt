@@ -19,7 +19,8 @@ use Rattle.qn_mps.specs.declared.labels.Line.TheVariants.{Shared}
 use Rattle.qn_mps.specs.Chains.{ChainValue, IsHeld, legs_of}
 use Rattle.qn_mps.specs.Labels.{labels_at}
 use Rattle.qn_mps.specs.Networks.{HasConjugates, AreOverlapMembers, AreExpectMembers, chain_members, members_of_kind}
-use Rattle.qn_mps.proofs.Room.{HasRoom, IsReady, members_are, back_members_are, members_long, back_members_long, conjugates_long, conjugates_room, chain_room, chain_long}
+use Rattle.qn_mps.proofs.Room.{HasRoom, IsReady, members_are, back_members_are, members_long, back_members_long, conjugates_room, chain_room, chain_long}
+use Rattle.qn_braket.proofs.ChainLists.{conjugates_long}
 
 -- the members that the code makes
 

@@ -2,14 +2,14 @@
 use Rattle.std.proofs.Common.{◌≡◌, ◌≤◌, ◌<◌, ◌^◌, ℕ, suc, ℤ, Bool, true, false, cond, ◌==◌, None, List, [], ◌∷◌, length, get_or, reverse, refl, sym, ◌∙◌, ap, subst, arith}
 use Rattle.std.specs.List.{All}
 use Rattle.std.proofs.lemmas.List.{get_or_default, length-reverse}
-use Rattle.std.proofs.lemmas.List.Elements.{All-append, All-nil, All-cons}
+use Rattle.std.proofs.lemmas.List.Elements.{All-nil, All-cons}
 use Rattle.qn_charge.specs.declared.factor.Factor.{Factor}
 use Rattle.qn_charge.specs.Charges.{IsWithin, neg_charge}
 use Rattle.qn_charge.specs.Laws.{within_neg}
 use Rattle.qn_index.specs.Legs.{LegValue}
 use Rattle.qn_value.proofs.PlacedLemmas.{all_first, all_others}
 use Rattle.qn_block.specs.Blocked.{BlockedValue, IsConjugate, tensor_of}
-use Rattle.qn_block.proofs.Mirror.{reverse_cons, conjugate_length}
+use Rattle.qn_block.proofs.Mirror.{conjugate_length}
 use Rattle.qn_net.specs.Members.{LabelledMember, IsMemberOf}
 use Rattle.qn_net.specs.Members.MemberValue.{own}
 use Rattle.qn_net.specs.Refusals.{IsFaultless}
@@ -17,6 +17,7 @@ use Rattle.qn_braket.specs.Chains.{AreConjugates, AreLegsOf, with_labels, back_w
 use Rattle.qn_mps.specs.declared.chain.ChainKind.{ChainKind}
 use Rattle.qn_mps.specs.declared.chain.ChainKind.TheVariants.{State, Operator}
 use Rattle.qn_mps.specs.Chains.{ChainValue, IsHeld, IsTensorOf, legs_of}
+use Rattle.qn_facts.proofs.Lists.{all_reversed}
 
 -- a tensor that may be a member of a network over this group
 pub record HasRoom (fs : List Factor) (t : BlockedValue) : Type 0 where
@@ -41,13 +42,8 @@ members_are fs labels j (t ∷ ts) h =
     (record { group = r.group; few = r.few; flux = r.flux; narrow = tt })
     (members_are fs labels (suc j) ts (all_others (HasRoom fs) t ts h))
 
-all_reverse : {A : Type 0} (P : A → Type 0) (xs : List A) → All P xs → All P (reverse xs)
-all_reverse P [] h = h
-all_reverse P (x ∷ xs) h =
-    subst (All P) (sym (reverse_cons x xs)) (All-append P (reverse xs) (x ∷ []) (all_reverse P xs (all_others P x xs h)) (All-cons P x [] (all_first P x xs h) (All-nil P)))
-
 pub back_members_are : (fs : List Factor) (labels : ℕ → List ℤ) (ts : List BlockedValue) → All (HasRoom fs) ts → All (IsMemberOf fs) (back_with_labels labels ts)
-back_members_are fs labels ts h = all_reverse (IsMemberOf fs) (with_labels (λ j. reverse (labels j)) 0 ts) (members_are fs (λ j. reverse (labels j)) 0 ts h)
+back_members_are fs labels ts h = all_reversed (IsMemberOf fs) (with_labels (λ j. reverse (labels j)) 0 ts) (members_are fs (λ j. reverse (labels j)) 0 ts h)
 
 pub members_long : (labels : ℕ → List ℤ) (j : ℕ) (ts : List BlockedValue) → length (with_labels labels j ts) ≡ length ts
 members_long labels j [] = refl
@@ -57,12 +53,6 @@ pub back_members_long : (labels : ℕ → List ℤ) (ts : List BlockedValue) →
 back_members_long labels ts = length-reverse (with_labels (λ j. reverse (labels j)) 0 ts) ∙ members_long (λ j. reverse (labels j)) 0 ts
 
 -- the conjugates
-
-pub conjugates_long : (ts cs : List BlockedValue) → AreConjugates ts cs → length cs ≡ length ts
-conjugates_long [] [] h = refl
-conjugates_long [] (c ∷ cs) h = absurd h
-conjugates_long (t ∷ ts) [] h = absurd h
-conjugates_long (t ∷ ts) (c ∷ cs) h = ap suc (conjugates_long ts cs h.1)
 
 conjugate_room : (fs : List Factor) (t c : BlockedValue) → HasRoom fs t → IsConjugate (tensor_of t) (tensor_of c) → HasRoom fs c
 conjugate_room fs t c r h =

@@ -23,7 +23,7 @@ use Rattle.qn_net.specs.Refusals.{network_of, positives}
 use Rattle.qn_braket.specs.ChainLabels.{state_labels, operator_labels, overlap_site, overlap_bra, overlap_ket, expect_upper, expect_lower, expect_bra, expect_op, expect_ket}
 use Rattle.qn_braket.specs.Chains.{AreConjugates, with_labels, back_with_labels, overlap_members, overlap_network, expect_members, expect_network}
 use Rattle.qn_mps.specs.SameNetworks.{IsSameNetwork, SameOverlapLaw, SameExpectLaw}
-use Rattle.qn_mps.proofs.Room.{conjugates_long}
+use Rattle.qn_braket.proofs.ChainLists.{conjugates_long}
 
 -- the legs of a member, each with its label
 abbrev slots_here : LabelledMember → List Slot

@@ -13,7 +13,7 @@ use crate::checks::first_fault;
 use crate::fault::ChainFault;
 use qn_block::BlockTensor;
 use qn_charge::Group;
-use qn_index::Leg;
+use qn_index::{Leg, copy_legs};
 use std::alloc::{AllocError, Global};
 use std::marker::Model;
 
@@ -45,17 +45,6 @@ impl<const K: usize> Model for Chain<K> {
     ghost view = { λ c. record { group = c.group; kind = c.kind; sites = c.sites.items; tensors = c.tensors.items } };
 
     ghost invariant = { λ c. IsHeld (record { group = c.group; kind = c.kind; sites = c.sites.items; tensors = c.tensors.items }) };
-}
-
-/// Equal legs.
-fn copy_legs<const K: usize>(alloc: Global, legs: &[Leg<K>]) -> Result<Vec<Leg<K>>, AllocError>
-    ensures { IfOk result (λ v. v.items ≡ legs.now) }
-{
-    let mut copies = Vec::with_capacity(alloc, legs.len())?;
-    for leg in legs {
-        copies.push(leg.copy()?)?;
-    }
-    Ok(copies)
 }
 
 /// Equal tensors.
@@ -95,7 +84,8 @@ impl<const K: usize> Chain<K> {
         requires out { All (λ l. l.arrow ≡ Out) sites.now }
         requires group { All (λ t. t.group ≡ group) tensors.items }
         requires fluxes { All (λ t. IsWithin (2 ^ 41) group t.flux) tensors.items }
-        ensures ok { IfOk result (λ c. c ≡ record { group = group.entry; kind = kind; sites = sites.now; tensors = tensors.entry.items }) }
+        ensures ok { IfOk result (λ c.
+            c ≡ record { group = group.entry; kind = kind; sites = sites.now; tensors = tensors.entry.items }) }
         ensures faultless { OnOk result (IsFaultless kind sites.now tensors.entry.items) }
         ensures err { IfErr result (IsChainFault kind sites.now tensors.entry.items) }
     {
@@ -114,8 +104,8 @@ impl<const K: usize> Chain<K> {
         })
     }
 
-    /// The state of these tensors on sites with these legs. The first tensor has the legs s, right; one in the middle left, s, right; the last left, s;
-    /// a single one s. The leg s is the site's.
+    /// The state of these tensors on sites with these legs. The first tensor has the legs s, right; one in the middle
+    /// left, s, right; the last left, s; a single one s. The leg s is the site's.
     pub fn state(
         alloc: Global,
         group: Group<K>,
@@ -127,14 +117,16 @@ impl<const K: usize> Chain<K> {
         requires out { All (λ l. l.arrow ≡ Out) sites.now }
         requires group { All (λ t. t.group ≡ group) tensors.items }
         requires fluxes { All (λ t. IsWithin (2 ^ 41) group t.flux) tensors.items }
-        ensures ok { IfOk result (λ c. c ≡ record { group = group.entry; kind = state_kind; sites = sites.now; tensors = tensors.entry.items }) }
+        ensures ok { IfOk result (λ c.
+            c ≡ record { group = group.entry; kind = state_kind; sites = sites.now; tensors = tensors.entry.items }) }
         ensures faultless { OnOk result (IsFaultless state_kind sites.now tensors.entry.items) }
         ensures err { IfErr result (IsChainFault state_kind sites.now tensors.entry.items) }
     {
         Chain::checked(alloc, ChainKind::State, group, sites, tensors)
     }
 
-    /// The operator of these tensors on sites with these legs: as a state, but with the legs s', s in the place of s. The leg s' is the site's, the leg s its flip.
+    /// The operator of these tensors on sites with these legs: as a state, but with the legs s', s in the place of s.
+    /// The leg s' is the site's, the leg s its flip.
     pub fn operator(
         alloc: Global,
         group: Group<K>,
@@ -146,7 +138,9 @@ impl<const K: usize> Chain<K> {
         requires out { All (λ l. l.arrow ≡ Out) sites.now }
         requires group { All (λ t. t.group ≡ group) tensors.items }
         requires fluxes { All (λ t. IsWithin (2 ^ 41) group t.flux) tensors.items }
-        ensures ok { IfOk result (λ c. c ≡ record { group = group.entry; kind = operator_kind; sites = sites.now; tensors = tensors.entry.items }) }
+        ensures ok { IfOk result (λ c.
+            c ≡
+            record { group = group.entry; kind = operator_kind; sites = sites.now; tensors = tensors.entry.items }) }
         ensures faultless { OnOk result (IsFaultless operator_kind sites.now tensors.entry.items) }
         ensures err { IfErr result (IsChainFault operator_kind sites.now tensors.entry.items) }
     {

@@ -10,24 +10,7 @@ ghost use Rattle.qn_mps.specs.Refusals.{BadLegsAt, ClashAt, HaveLegs, IsFaultles
 use crate::chain::ChainKind;
 use crate::fault::ChainFault;
 use qn_block::BlockTensor;
-use qn_index::{Leg, Sector};
-
-/// Whether two lists of sectors are the same.
-fn same_sectors<const K: usize>(a: &[Sector<K>], b: &[Sector<K>]) -> bool
-    ensures { IsTrue result ↔ (a.now ≡ b.now) }
-{
-    if a.len() != b.len() {
-        return false;
-    }
-    for i in 0..a.len() {
-        let s = &a[i];
-        let t = &b[i];
-        if !s.same(t) {
-            return false;
-        }
-    }
-    true
-}
+use qn_index::{Leg, same_sectors};
 
 /// Whether two legs are the same.
 fn same_leg<const K: usize>(a: &Leg<K>, b: &Leg<K>) -> bool

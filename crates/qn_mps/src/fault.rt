@@ -1,10 +1,13 @@
+//! Why tensors are no chain of this kind on these sites.
+
 use std::alloc::{AllocError, AllocFailed};
 use thiserror::Error;
 
 /// Why tensors are no chain. Sites are counted from 1.
 #[derive(Clone, Copy, Debug, PartialEq, Eq, Error)]
 pub enum ChainFault {
-    /// The number of tensors is not that of the sites, where `site` is 0, or the tensor of this site has not the legs of its place.
+    /// The number of tensors is not that of the sites, where `site` is 0, or the tensor of this site has not the legs
+    /// of its place.
     #[error("the tensor of site {site} has not the legs of its place (site 0: the number of tensors is wrong)")]
     ChainShape { site: usize },
     /// The leg right of this site and the leg left of the next one do not meet.

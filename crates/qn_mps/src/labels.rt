@@ -13,7 +13,8 @@ pub(crate) enum Line {
     OwnLink,
     /// The legs s of a state's own network, or s' of an operator's: -1, -2, ..
     OwnUpper,
-    /// The legs s of an operator's own network, whose last site has this number, from 0: they go on from s', from the last site to the first.
+    /// The legs s of an operator's own network, whose last site has this number, from 0: they go on from s', from the
+    /// last site to the first.
     OwnLower { last: u8 },
     /// Legs of a network of two or three chains: this label on the first site, and so many more from site to site.
     Shared { step: u8, first: u8 },
@@ -73,7 +74,8 @@ fn add_own(labels: &mut Vec<i64>, own: &[Line], site: usize) -> Result<(), Alloc
     Ok(())
 }
 
-/// The labels of a tensor on a site, counted from 0, of so many: that of the link left of it, those of the site, that of the link right of it.
+/// The labels of a tensor on a site, counted from 0, of so many: that of the link left of it, those of the site, that
+/// of the link right of it.
 pub(crate) fn labels_at(
     alloc: Global,
     own: &[Line],

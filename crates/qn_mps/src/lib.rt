@@ -1,4 +1,6 @@
 //! Chains of tensors on sites in a row: states and operators, and the networks of their overlaps and expectations.
+//!
+//! For documents and commands. It hands on `Chain`, checked, and the network of a braket.
 #![tactic(auto)]
 
 mod chain;

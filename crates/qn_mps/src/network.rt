@@ -31,7 +31,9 @@ fn add_tensors<const K: usize>(
     own: &[Line],
     link: Line,
 ) -> Result<(), AllocError>
-    ensures { OnOk result (members.new.items ≡ members.old.items ++ with_labels (labels_at own.now link (length chain.now.tensors)) 0 chain.now.tensors) }
+    ensures { OnOk result (
+        members.new.items ≡
+        members.old.items ++ with_labels (labels_at own.now link (length chain.now.tensors)) 0 chain.now.tensors) }
 {
     chain.known();
     let alloc = chain.allocator();
@@ -59,14 +61,16 @@ fn conjugate_member<const K: usize>(
     })
 }
 
-/// Adds the conjugates of the tensors of a chain, from the last site to the first, each with its labels in reversed order.
+/// Adds the conjugates of the tensors of a chain, from the last site to the first, each with its labels in reversed
+/// order.
 fn add_conjugates<const K: usize>(
     members: &mut Vec<NetTensor<K>>,
     chain: &Chain<K>,
     own: &[Line],
     link: Line,
 ) -> Result<(), AllocError>
-    ensures { OnOk result (HasConjugates (labels_at own.now link (length chain.now.tensors)) chain.now.tensors members.old.items members.new.items) }
+    ensures { OnOk result (
+        HasConjugates (labels_at own.now link (length chain.now.tensors)) chain.now.tensors members.old.items members.new.items) }
 {
     chain.known();
     let alloc = chain.allocator();
@@ -155,7 +159,8 @@ fn faultless_network<const K: usize>(
 }
 
 impl<const K: usize> Chain<K> {
-    /// The network of the chain alone: link j has the label j, a state's s_j and an operator's s'_j have -j, and an operator's s_j on n sites has -(2n + 1 - j).
+    /// The network of the chain alone: link j has the label j, a state's s_j and an operator's s'_j have -j, and an
+    /// operator's s_j on n sites has -(2n + 1 - j).
     pub fn network(&self) -> Result<Network<K>, AllocError>
         ensures { IfOk result (λ n. n ≡ chain_network self.now) }
     {
@@ -166,8 +171,9 @@ impl<const K: usize> Chain<K> {
     }
 }
 
-/// The network whose value is the overlap of two states on the same sites: the conjugates of the bra's tensors, from the last site to the first,
-/// and then the ket's tensors. The legs s of site j have the label 3j - 2, the bra's link j has 3j - 1, the ket's 3j.
+/// The network whose value is the overlap of two states on the same sites: the conjugates of the bra's tensors, from
+/// the last site to the first, and then the ket's tensors. The legs s of site j have the label 3j - 2, the bra's link j
+/// has 3j - 1, the ket's 3j.
 pub fn overlap_net<const K: usize>(bra: &Chain<K>, ket: &Chain<K>) -> Result<Network<K>, AllocError>
     requires bra { bra.now.kind ≡ state_kind }
     requires ket { ket.now.kind ≡ state_kind }
@@ -175,7 +181,10 @@ pub fn overlap_net<const K: usize>(bra: &Chain<K>, ket: &Chain<K>) -> Result<Net
     requires sites { ket.now.sites ≡ bra.now.sites }
     ensures network { IfOk result (IsOverlapNetwork bra.now.group bra.now.tensors ket.now.tensors) }
     ensures value { IfOk result (λ n. value n [] ≡ overlap bra.now.group bra.now.sites bra.now.tensors ket.now.tensors) }
-    ensures flux { IfOk result (λ n. network_flux n ≡ sum_charge bra.now.group (chain_flux bra.now.group ket.now.tensors) (neg_charge bra.now.group (chain_flux bra.now.group bra.now.tensors))) }
+    ensures flux { IfOk result (λ n.
+        network_flux n ≡
+        sum_charge bra.now.group (chain_flux bra.now.group ket.now.tensors) (
+        neg_charge bra.now.group (chain_flux bra.now.group bra.now.tensors))) }
 {
     bra.known();
     ket.known();
@@ -186,9 +195,9 @@ pub fn overlap_net<const K: usize>(bra: &Chain<K>, ket: &Chain<K>) -> Result<Net
     faultless_network(*bra.group(), members)
 }
 
-/// The network whose value is the expectation of an operator between two states on the same sites: the conjugates of the bra's tensors, from the last
-/// site to the first, then the operator's tensors, and then the ket's. The legs s' of site j have the label 5j - 4, the legs s 5j - 3, and the links j of
-/// bra, operator and ket 5j - 2, 5j - 1 and 5j.
+/// The network whose value is the expectation of an operator between two states on the same sites: the conjugates of
+/// the bra's tensors, from the last site to the first, then the operator's tensors, and then the ket's. The legs s' of
+/// site j have the label 5j - 4, the legs s 5j - 3, and the links j of bra, operator and ket 5j - 2, 5j - 1 and 5j.
 pub fn expect_net<const K: usize>(
     bra: &Chain<K>,
     op: &Chain<K>,
@@ -200,8 +209,12 @@ pub fn expect_net<const K: usize>(
     requires groups { (op.now.group ≡ bra.now.group) × (ket.now.group ≡ bra.now.group) }
     requires sites { (op.now.sites ≡ bra.now.sites) × (ket.now.sites ≡ bra.now.sites) }
     ensures network { IfOk result (IsExpectNetwork bra.now.group bra.now.tensors op.now.tensors ket.now.tensors) }
-    ensures value { IfOk result (λ n. value n [] ≡ expectation bra.now.group bra.now.sites (element bra.now.group op.now.tensors) bra.now.tensors ket.now.tensors) }
-    ensures flux { IfOk result (λ n. network_flux n ≡ sum_charge bra.now.group (sum_charge bra.now.group (chain_flux bra.now.group op.now.tensors) (chain_flux bra.now.group ket.now.tensors)) (neg_charge bra.now.group (chain_flux bra.now.group bra.now.tensors))) }
+    ensures value { IfOk result (λ n.
+        value n [] ≡
+        expectation bra.now.group bra.now.sites (element bra.now.group op.now.tensors) bra.now.tensors ket.now.tensors) }
+    ensures flux { IfOk result (λ n.
+        network_flux n ≡
+        sum_charge bra.now.group (sum_charge bra.now.group (chain_flux bra.now.group op.now.tensors) (chain_flux bra.now.group ket.now.tensors)) (neg_charge bra.now.group (chain_flux bra.now.group bra.now.tensors))) }
 {
     bra.known();
     op.known();

@@ -1,3 +1,5 @@
+//! Chains at fault, labels of their legs, and networks of overlaps and expectations.
+
 ghost use Rattle.std.specs.Prelude.{◌≡◌, ◌≤◌, ◌^◌, ◌<◌, length, IfOk};
 ghost use Rattle.std.specs.List.{All};
 ghost use Rattle.qn_charge.specs.Charges.{IsWithin};
@@ -19,7 +21,8 @@ use std::test::Fail;
 
 const FERMION: Factor = Factor::U1 { fermion: true };
 
-// A leg: its arrow, the charge of its first sector, and how many sectors it has. Charges rise by one, and each sector has one value.
+// A leg: its arrow, the charge of its first sector, and how many sectors it has. Charges rise by one, and each sector
+// has one value.
 type Row = (Dir, i64, u8);
 
 // A block of one entry: its tuple, and the parts of the entry.

@@ -5,7 +5,7 @@ use Rattle.std.specs.List.{All, Contains, list_all}
 use Rattle.std.proofs.lemmas.Bool.{or_cases, or_parts, or_left, or_right, and_parts, false≢true}
 use Rattle.std.proofs.lemmas.Bool.Decides.{nat_tests}
 use Rattle.std.proofs.lemmas.List.Elements.{All-append, All-contains_itself}
-use Rattle.std.proofs.lemmas.List.{reverse-append, length-append, length-map, map-append}
+use Rattle.std.proofs.lemmas.List.{reverse-append, length-append, length-map}
 use Rattle.qn_sign.specs.Sign.{is_in, xor, IsDistinct}
 use Rattle.qn_sign.specs.Positions.{positions}
 use Rattle.qn_gauss.specs.Gaussian.{zero_g, one_g, mul_g, signed, mag, limit}
@@ -26,7 +26,7 @@ use Rattle.qn_value.proofs.Values.{same_values-equal}
 use Rattle.qn_value.proofs.RowsLemmas.{zero_mul, values_back, append_parts}
 use Rattle.qn_value.proofs.NetLaws.{end_test}
 use Rattle.qn_value.proofs.Sums.{label_test}
-use Rattle.qn_value.proofs.MagnitudeLemmas.{mag_zero, mag_signed}
+use Rattle.qn_value.proofs.MagnitudeLemmas.{mag_zero}
 use Rattle.qn_value.proofs.BlockRows.{all-nil, all-cons}
 use Rattle.qn_value.proofs.PlacedLemmas.{all_first, all_others}
 use Rattle.qn_value.proofs.BlocksLemmas.{length-legs}
@@ -44,11 +44,12 @@ use Rattle.qn_net.specs.FuseSteps.{IsTableOf, IsFusedAt, NeverPasses, FuseStepLa
 use Rattle.qn_net.proofs.PlanTwist.{ends_distinct, bonds_distinct}
 use Rattle.qn_net.proofs.SingleSums.{AgreesOff, sum_within}
 use Rattle.qn_net.proofs.FuseEntries.{IsSingle, InRange, meets_from, one_summand}
-use Rattle.qn_net.proofs.Held.{legs-append}
-use Rattle.qn_net.proofs.LastTensor.{values_below, values_count}
+use Rattle.qn_net.proofs.Held.{legs-append, value_below}
+use Rattle.qn_net.proofs.LastTensor.{values_count}
 use Rattle.qn_net.proofs.PassingLemmas.{local_pair}
 use Rattle.qn_net.proofs.StepTensors.{lines_perm, lines_first}
 use Rattle.qn_value.proofs.RowsLemmas.{values-append}
+use Rattle.qn_gauss.proofs.Signs.{mag_signed}
 
 -- the values that stand at a place of a list
 
@@ -163,7 +164,7 @@ reverse_twice [] = refl
 reverse_twice (x ∷ xs) =
     ap (λ (ys : List ℕ). reverse ys) (reverse-append (x ∷ []) xs) ∙ reverse-append (reverse xs) (x ∷ []) ∙ ap (λ ys. x ∷ ys) (reverse_twice xs)
 
-values_off : (vs : List End) (k a : Assignment) → ((y : End) → is_in same_end y vs ≡ true → k y ≡ a y) → values vs k ≡ values vs a
+pub values_off : (vs : List End) (k a : Assignment) → ((y : End) → is_in same_end y vs ≡ true → k y ≡ a y) → values vs k ≡ values vs a
 values_off [] k a h = refl
 values_off (v ∷ vs) k a h =
     ap₂ ◌∷◌ (h v (or_left (same_end v v) (is_in same_end v vs) (end_test.itself v))) (values_off vs k a (λ y i. h y (or_right (same_end y v) (is_in same_end y vs) i)))
@@ -384,7 +385,7 @@ roles par opens ts us s k = carried_roles s.groups par opens ts us s k (λ i d l
 
 -- the one summand of a step that fuses
 
-values-join : (ls ms : List LegValue) (us vs : List ℕ) → IsValues ls us → IsValues ms vs → IsValues (ls ++ ms) (us ++ vs)
+pub values-join : (ls ms : List LegValue) (us vs : List ℕ) → IsValues ls us → IsValues ms vs → IsValues (ls ++ ms) (us ++ vs)
 values-join [] ms us vs h k = subst (λ ws. IsValues ms (ws ++ vs)) (sym h) k
 values-join (l ∷ ls) ms [] vs h k = absurd h
 values-join (l ∷ ls) ms (u ∷ us) vs h k = (h.0, values-join ls ms us vs h.1 k)
@@ -438,7 +439,7 @@ module _ (fs : List Factor) (sectors : ℤ → List SectorValue) (x y : Node) (p
       (sym (values-append x.ends y.ends k) ∙ ap (λ (es : List End). values es k) (sym word_is) ∙ back)
 
   below : (e : End) → is_in same_end e (word (x ∷ y ∷ [])) ≡ true → k e < total_of (sectors e.label)
-  below e i = values_below sectors (word (x ∷ y ∷ [])) k (subst (IsValues (legs_on sectors (word (x ∷ y ∷ [])))) (sym back) all_range) e i
+  below e i = value_below sectors (word (x ∷ y ∷ [])) k (subst (IsValues (legs_on sectors (word (x ∷ y ∷ [])))) (sym back) all_range) e i
 
   range : InRange k bonds
   range =

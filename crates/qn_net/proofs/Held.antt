@@ -89,7 +89,7 @@ pub entry_range : (t : TensorValue) → IsTensor t → (xs : List ℕ) → IsVal
 entry_range t h xs = rows_range t.group t.legs t.flux t.rows h.rows xs
 
 -- an end in range
-value_below : (sectors : ℤ → List SectorValue) (es : List End) (a : Assignment) → IsValues (legs_on sectors es) (values es a) → (e : End) → is_in same_end e es ≡ true → a e < total (sectors e.label)
+pub value_below : (sectors : ℤ → List SectorValue) (es : List End) (a : Assignment) → IsValues (legs_on sectors es) (values es a) → (e : End) → is_in same_end e es ≡ true → a e < total (sectors e.label)
 value_below sectors [] a h e i = absurd (false≢true i)
 value_below sectors (f ∷ es) a h e i = go (same_end e f) refl i (value_below sectors es a h.1 e)
   where

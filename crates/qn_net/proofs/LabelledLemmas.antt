@@ -11,7 +11,7 @@ use Rattle.qn_net.specs.declared.fault.NetFault.{NetFault}
 use Rattle.qn_net.specs.declared.fault.NetFault.TheVariants.{LabelArity, LabelRange, LabelCount, Arrow, Sectors, OpenLabels, Order, Memory}
 use Rattle.qn_net.specs.Refusals.{IsLabel, BadLabelAt, HaveLabels, AreLabelled, IsChoiceFault, IsNetFault}
 use Rattle.qn_net.specs.Tables.{HasLabel}
-use Rattle.qn_net.proofs.PartLemmas.{map-append}
+use Rattle.std.proofs.lemmas.List.{map-append}
 
 -- a number is a label, or it is none
 label_or_not : (l : ℤ) → IsLabel l ⊎ (IsLabel l → ⊥)

@@ -6,7 +6,7 @@ use Rattle.std.proofs.lemmas.Bool.{or_cases, or_left, or_right, false≢true}
 use Rattle.std.proofs.lemmas.List.{length-map, map-append, get_or-map}
 use Rattle.std.proofs.lemmas.List.Elements.{All-map}
 use Rattle.qn_sign.specs.Sign.{is_in, is_odd, exchange_sign, IsDistinct, Perm}
-use Rattle.qn_sign.specs.Sign.Perm.{none, keep, swap, then_by}
+use Rattle.qn_sign.specs.Sign.Perm.{then_by}
 use Rattle.qn_sign.specs.Positions.{positions, is_odd_at, IsOrder}
 use Rattle.qn_sign.proofs.Parity.{perm-refl, perm_under, perm_before, perm_blocks}
 use Rattle.qn_sign.proofs.Order.{is_in-perm, distinct-perm}
@@ -40,8 +40,10 @@ use Rattle.qn_net.proofs.PassingLemmas.{flux, flux-perm}
 use Rattle.qn_net.proofs.NetworkLemmas.{network_value}
 use Rattle.qn_net.proofs.CoupledNodes.{no_end}
 use Rattle.qn_net.proofs.StepTensors.{map_all}
-use Rattle.qn_value.proofs.OpenLegs.{range-last}
 use Rattle.qn_sign.proofs.Positions.{length-perm}
+use Rattle.qn_facts.proofs.Lists.{range_last}
+use Rattle.qn_net.proofs.Held.{value_below}
+pub use Rattle.qn_net.proofs.Held.{value_below as values_below}
 
 -- the labels of the open legs
 
@@ -51,7 +53,7 @@ labels_of_opens es (suc n) =
     map-append (λ (e : End). e.label) (opens_of es n) (open_end es n ∷ [])
     ∙ ap (λ ls. ls ++ negsuc n ∷ []) (labels_of_opens es n)
     ∙ sym (map-append negsuc (positions n) (n ∷ []))
-    ∙ ap (map negsuc) (sym (range-last 0 n ∙ ap (λ k. positions n ++ k ∷ []) (omega arith)))
+    ∙ ap (map negsuc) (sym (range_last 0 n ∙ ap (λ k. positions n ++ k ∷ []) (omega arith)))
 
 open_labels_distinct : (a n : ℕ) → IsDistinct int_eq (map negsuc (range_with_len a n))
 open_labels_distinct a zero = tt
@@ -135,14 +137,6 @@ values_from sectors [] a h = refl
 values_from sectors (e ∷ es) a h =
     (h e (or_left (same_end e e) (is_in same_end e es) (end_test.itself e)), values_from sectors es a (λ f i. h f (or_right (same_end f e) (is_in same_end f es) i)))
 
-pub values_below : (sectors : ℤ → List SectorValue) (es : List End) (a : Assignment) → IsValues (legs_on sectors es) (values es a) → (e : End) → is_in same_end e es ≡ true → a e < total (sectors e.label)
-values_below sectors [] a h e i = absurd (false≢true i)
-values_below sectors (f ∷ es) a h e i = go (or_cases (same_end e f) (is_in same_end e es) i) (values_below sectors es a h.1 e)
-  where
-    go : (same_end e f ≡ true) ⊎ (is_in same_end e es ≡ true) → (is_in same_end e es ≡ true → a e < total (sectors e.label)) → a e < total (sectors e.label)
-    go (inl q) ih = subst (λ (g : End). a g < total (sectors g.label)) (sym (end_test.equal e f q)) h.0
-    go (inr q) ih = ih q
-
 pub values_count : (sectors : ℤ → List SectorValue) (es : List End) (xs : List ℕ) → IsValues (legs_on sectors es) xs → length xs ≡ length es
 values_count sectors [] xs h = ap (λ (ys : List ℕ). length ys) h
 values_count sectors (e ∷ es) [] h = absurd h
@@ -208,7 +202,7 @@ module _ (fs : List Factor) (sectors : ℤ → List SectorValue) (p : Placed) (n
         let inside : IsValues (legs_on sectors os) (values os a) = subst (IsValues (legs_on sectors os)) (sym back) (subst (λ gs. IsValues gs ys) legs_moved v) in
         let range : IsValues p.tensor.legs (values n.ends a) =
         subst (λ gs. IsValues gs (values n.ends a)) (sym hp.legs)
-        (values_from sectors n.ends a (λ e i. values_below sectors os a inside e (sym (is_in-perm same_end e complete) ∙ i))) in
+        (values_from sectors n.ends a (λ e i. value_below sectors os a inside e (sym (is_in-perm same_end e complete) ∙ i))) in
         let places : picked 0 (values n.ends a) order ≡ ys =
         map_all (λ k. get_or (values n.ends a) k 0) (λ k. a (at k)) order (λ j d l. get_or-map a n.ends (get_or order j d) no_end 0 (below j d l))
         ∙ sym (map-map a (λ k. get_or n.ends k no_end) order) ∙ ap (λ es. values es a) ends_picked ∙ back in

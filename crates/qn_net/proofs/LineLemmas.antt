@@ -1,8 +1,7 @@
 -- Labels out of range stand on no leg, so only those in range need be looked at.
-use Rattle.std.proofs.Common.{◌≡◌, ◌≤◌, ◌<◌, ℕ, zero, suc, ◌+◌, ℤ, pos, negsuc, Bool, true, false, cond, List, [], ◌∷◌, ◌++◌, append-nil, refl, sym, ◌∙◌, ap, ap₂, subst, int_eq, nat_lt, IsTrue, add-one, ◌⊎◌, inl, inr, eq-or-lt_of_le, arith}
+use Rattle.std.proofs.Common.{◌≡◌, ◌≤◌, ◌<◌, ℕ, zero, suc, ◌+◌, ℤ, pos, negsuc, Bool, true, false, cond, List, [], ◌∷◌, refl, sym, ◌∙◌, ap, ap₂, subst, int_eq, nat_lt, IsTrue, ◌⊎◌, inl, inr, eq-or-lt_of_le, arith}
 use Rattle.std.specs.List.{All}
 use Rattle.std.proofs.lemmas.Bool.{false≢true, cases_lt}
-use Rattle.std.proofs.lemmas.Bool.Decides.{nat_tests}
 use Rattle.std.proofs.lemmas.List.Sums.{sum_by-cons}
 use Rattle.qn_charge.specs.Firsts.{IsFirst, HasNone}
 use Rattle.qn_value.specs.Networks.{End}
@@ -88,14 +87,6 @@ negsuc_label n l = ((λ e. apart e), omega arith)
     apart : negsuc n ≡ pos 0 → ⊥
     apart e = cc
 
--- one label more of those that stand or are missing
-pub step_all : (P : ℕ → Type 0) (n : ℕ) → ((k : ℕ) → k < n → P k) → P n → (k : ℕ) → k < n + 1 → P k
-step_all P n h p k l = go (eq-or-lt_of_le (omega arith))
-  where
-    go : (k ≡ n) ⊎ (k < n) → P k
-    go (inl e) = subst P (sym e) p
-    go (inr m) = h k m
-
 pub stands_not : (x : ℕ) (b : Bool) → b ≡ false → (0 < x → IsTrue b) → x ≡ 0
 stands_not zero b e h = refl
 stands_not (suc x) b e h = absurd (false≢true (sym e ∙ h (omega arith)))
@@ -140,21 +131,6 @@ positives_start es h = sym (ap (λ k. cond (nat_lt 0 k) (pos 0 ∷ []) []) (none
   where
     none_there : cond (nat_lt 0 0) (pos 0 ∷ []) [] ≡ []
     none_there = refl
-
-pub positives_more : (es : List End) (n : ℕ) (b : Bool) (xs ys : List ℤ) → (IsTrue b → 0 < legs_with (pos n) es) × (0 < legs_with (pos n) es → IsTrue b) → xs ≡ positives_below es n →
-    ys ≡ cond b (xs ++ pos n ∷ []) xs → ys ≡ positives_below es (n + 1)
-positives_more es n b xs ys h e f = f ∙ go b h ∙ ap (positives_below es) (sym (add-one n))
-  where
-    stands : 0 < legs_with (pos n) es → nat_lt 0 (legs_with (pos n) es) ≡ true
-    stands l = grind (arith, nat_tests)
-
-    stands_nowhere : legs_with (pos n) es ≡ 0 → nat_lt 0 (legs_with (pos n) es) ≡ false
-    stands_nowhere z = ap (nat_lt 0) z
-
-    go : (b : Bool) → (IsTrue b → 0 < legs_with (pos n) es) × (0 < legs_with (pos n) es → IsTrue b) →
-        cond b (xs ++ pos n ∷ []) xs ≡ positives_below es n ++ cond (nat_lt 0 (legs_with (pos n) es)) (pos n ∷ []) []
-    go true h = ap₂ (λ (zs ws : List ℤ). zs ++ ws) e (ap (λ t. cond t (pos n ∷ []) []) (sym (stands (h.0 refl))))
-    go false h = e ∙ sym (append-nil (positives_below es n)) ∙ ap (λ t. positives_below es n ++ cond t (pos n ∷ []) []) (sym (stands_nowhere (stands_not (legs_with (pos n) es) false refl h.1)))
 
 pub positives_all : (es : List End) (n : ℕ) (xs : List ℤ) → n ≡ 1025 → xs ≡ positives_below es n → xs ≡ positives es
 unfolding positives

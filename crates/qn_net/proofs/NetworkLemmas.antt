@@ -1,13 +1,13 @@
 -- Networks as they are given.
-use Rattle.std.proofs.Common.{◌≡◌, ◌<◌, ℕ, ℤ, Bool, true, false, ◌&&◌, cond, List, [], ◌∷◌, ◌++◌, refl, sym, ◌∙◌, ap, ap₂, subst, map, length, int_eq, arith}
+use Rattle.std.proofs.Common.{◌≡◌, ◌<◌, ℕ, ℤ, Bool, true, false, ◌&&◌, cond, List, [], ◌∷◌, refl, sym, ◌∙◌, ap, ap₂, subst, map, length, int_eq, arith}
 use Rattle.std.specs.Prelude.{int_lt}
 use Rattle.std.proofs.lemmas.Bool.{or_cases, or_left, or_right, false≢true}
 use Rattle.std.proofs.Common.{◌⊎◌, inl, inr}
 use Rattle.qn_sign.specs.Sign.{is_in}
 use Rattle.qn_sign.proofs.Order.{is_in-append, is_in-perm}
-use Rattle.qn_value.specs.Networks.{End, Bond, Parities, same_end, word, pairs_of, labels, flat, at_values, moved, AreHomogeneous, IsNetwork}
+use Rattle.qn_value.specs.Networks.{End, Bond, Parities, same_end, pairs_of, labels, flat, at_values, moved, AreHomogeneous, IsNetwork}
 use Rattle.qn_value.specs.Fluxes.{AllConserve, charge_on}
-use Rattle.qn_value.specs.Labels.{Placed, Slot, slots_of, slots, ends, node_of, is_positive, bond_at, bonds_from, place_bond, in_label_order}
+use Rattle.qn_value.specs.Labels.{Placed, Slot, ends, node_of, is_positive, bond_at, bonds_from, place_bond, in_label_order}
 use Rattle.qn_value.proofs.Sums.{label_test}
 use Rattle.qn_value.proofs.NetLaws.{ends-labels}
 use Rattle.qn_value.proofs.LabelLemmas.{plain_network}
@@ -18,7 +18,6 @@ use Rattle.qn_net.specs.Plans.{plan, first_state}
 use Rattle.qn_net.specs.Carried.{AllSound, Covers}
 use Rattle.qn_net.specs.Passing.{first_admissible_step}
 use Rattle.qn_net.specs.NetworkValues.{PlacedMember, NetworkValue, placed, legs_of, parities, sectors, bonds, open_count, opens, value, member_of, begin, steps, passing_place, IsWellFormed}
-use Rattle.qn_net.proofs.PartLemmas.{map-append}
 use Rattle.qn_net.proofs.PlanLemmas.{plan_start, first_nodes}
 use Rattle.qn_net.proofs.PassLemmas.{first_same}
 use Rattle.qn_net.proofs.PassingLemmas.{admissible_same, start_keep}
@@ -84,9 +83,6 @@ positive_ordered [] f l h = f l h
 positive_ordered (b ∷ bs) f l h =
     positive_placed b (in_label_order bs) l (f b.label (or_left (int_eq b.label b.label) (is_in int_eq b.label (labels bs)) (label_test.itself b.label)))
     (positive_ordered bs (λ k i. f k (or_right (int_eq k b.label) (is_in int_eq k (labels bs)) i)) l) h
-
-in_end : ℤ → End
-in_end l = record { label = l; inward = true }
 
 module _ (net : NetworkValue) (w : IsWellFormed net) where
   network : IsNetwork (map node_of (placed net)) (bonds net) (opens net)

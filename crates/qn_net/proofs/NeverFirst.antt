@@ -22,7 +22,7 @@ use Rattle.qn_value.proofs.NetLaws.{end_test, signed-zero, at_values-values}
 use Rattle.qn_value.proofs.BlockRows.{all-nil, all-cons}
 use Rattle.qn_value.proofs.PlacedLemmas.{all_first, all_others}
 use Rattle.qn_value.proofs.BoundsLemmas.{contract_bounded}
-use Rattle.qn_value.proofs.MagnitudeLemmas.{mag_zero, mag_signed, value_within}
+use Rattle.qn_value.proofs.MagnitudeLemmas.{mag_zero, value_within}
 use Rattle.qn_block.specs.Combiners.{CombinerValue, IsCombiner}
 use Rattle.qn_net.specs.Groups.{Role, TensorGroup, nodes}
 use Rattle.qn_net.specs.Groups.Role.{tensor}
@@ -43,12 +43,10 @@ use Rattle.qn_net.proofs.NetworkLemmas.{network_value}
 use Rattle.qn_net.proofs.Held.{IsBeyond, dims, node_bounded, range_of}
 use Rattle.qn_net.proofs.FirstTensors.{first_tensors}
 use Rattle.qn_net.proofs.FuseLaws.{all_right, groups_after, fuse_step as fuse_law}
+use Rattle.qn_facts.proofs.Options.{none_head}
+use Rattle.qn_gauss.proofs.Signs.{mag_signed}
 
 -- where nothing passes
-
-none_head : {A : Type 0} (b : Bool) (x : A) (o : Option A) → cond b (Some x) o ≡ None → (b ≡ false) × (o ≡ None)
-none_head true x o e = absurd (cc e)
-none_head false x o e = (refl, e)
 
 none_at : (test : ℕ → Bool) (a n : ℕ) → first_where test (range_with_len a n) ≡ None → (k : ℕ) → a ≤ k → k < a + n → test k ≡ false
 none_at test a zero e k l m = absurd (omega (arith, l, m))
@@ -60,7 +58,7 @@ none_at test a (suc n) e k l m =
     go true q here ih = ih (grind (arith, nat_tests))
     go false q here ih = let same : a ≡ k = grind (arith, nat_tests) in subst (λ j. test j ≡ false) same here
 
-none_place : (t : List ℕ) (o : Option ℕ) (p : Option Place) → place_or t o p ≡ None → (o ≡ None) × (p ≡ None)
+pub none_place : (t : List ℕ) (o : Option ℕ) (p : Option Place) → place_or t o p ≡ None → (o ≡ None) × (p ≡ None)
 none_place t None p e = (refl, e)
 none_place t (Some o) p e = absurd (cc e)
 

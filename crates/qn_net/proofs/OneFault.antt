@@ -9,7 +9,7 @@ use Rattle.qn_net.specs.Members.{LabelledMember, member_at, member_tensor, ends_
 use Rattle.qn_net.specs.Refusals.{BadLabelAt, BadArity, BadMemberAt, BadPlaceAt, IsMiscounted, IsRepeated, HasEqualArrows, HasUnequalSectors, IsGap, IsGoodOrder, IsOrderFault, AreCounted, AreOpposite, AreMeeting, AreLabelled, IsFaultless, IsNetFault}
 
 -- the first place is one
-first_once : (P : ℕ → Type 0) (i j : ℕ) → IsFirst P i → IsFirst P j → i ≡ j
+pub first_once : (P : ℕ → Type 0) (i j : ℕ) → IsFirst P i → IsFirst P j → i ≡ j
 first_once P i j p q = by (cases_lt i j) (cases_lt j i)
   where
     by : (i < j) ⊎ (j ≤ i) → (j < i) ⊎ (i ≤ j) → i ≡ j
@@ -28,10 +28,6 @@ order_once es order i j (inr p) (inr q) = p.1 ∙ sym q.1
 abbrev IsOrderFaultOf : List End → Option (List ℤ) → ℕ → Type 0
 IsOrderFaultOf es None p = ⊥
 IsOrderFaultOf es (Some order) p = IsOrderFault es order p
-
-one_order : (es : List End) (order : Option (List ℤ)) (i j : ℕ) → IsOrderFaultOf es order i → IsOrderFaultOf es order j → i ≡ j
-one_order es None i j p q = absurd p
-one_order es (Some order) i j p q = order_once es order i j p q
 
 no_order : (es : List End) (order : Option (List ℤ)) → IsGoodOrder es order → HasNone (IsOrderFaultOf es order)
 no_order es None g i p = p

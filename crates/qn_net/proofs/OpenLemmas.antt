@@ -16,7 +16,7 @@ positive_suc n = ap not (ne_eqb (suc n) 0 (λ e. absurd (omega (arith, e))))
 open-cons : (x : End) (es : List End) → open_count (x ∷ es) ≡ weight (not (is_positive x.label)) + open_count es
 open-cons x es = sum_by-cons (λ e. cond (not (is_positive e.label)) 1 0) x es
 
-no_weight : (b : Bool) → b ≡ false → weight b ≡ 0
+pub no_weight : (b : Bool) → b ≡ false → weight b ≡ 0
 no_weight true e = absurd (false≢true (sym e))
 no_weight false e = refl
 

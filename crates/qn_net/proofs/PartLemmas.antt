@@ -9,7 +9,7 @@ use Rattle.qn_gauss.specs.Gaussian.{mul_g}
 use Rattle.qn_value.specs.Networks.{End, Node, Bond, Assignment, sums, same_end, word, pairs_of, goal, odd_end, twist_sign, sign, values, product, flat, contract, kept as kept_legs, IsNetwork, AreHomogeneous, Parities}
 use Rattle.qn_net.specs.Groups.{Listed, TensorGroup, tensors, place_member, merged, joined, closed}
 use Rattle.qn_net.specs.Parts.{part, IsMadeAsPart}
-use Rattle.qn_sign.proofs.Parity.{xor_comm, perm-refl, perm-sym, perm_under, perm_before, perm_blocks}
+use Rattle.qn_sign.proofs.Parity.{perm-refl, perm-sym, perm_under, perm_before, perm_blocks}
 use Rattle.qn_sign.proofs.Order.{is_in-append, is_in-perm, distinct-perm, distinct_first, distinct_second}
 use Rattle.qn_sign.proofs.Members.{perm_cancel}
 use Rattle.qn_value.proofs.Sums.{perm-map}
@@ -21,6 +21,8 @@ use Rattle.qn_net.proofs.Homogeneous.{homogeneous-append}
 use Rattle.qn_value.proofs.OrderLaws.{contract_at, opens_law}
 pub use Rattle.qn_gauss.proofs.Signs.{signed-comm}
 pub use Rattle.qn_gauss.proofs.Signs.{signed-twice}
+use Rattle.std.proofs.lemmas.List.{map-append}
+pub use Rattle.std.proofs.lemmas.List.{map-append}
 
 -- a tensor that has the values of a sub-network, up to one sign, gives way to it
 
@@ -100,10 +102,6 @@ perm_place m (n ∷ ns) = go (nat_lt m.number n.number) (perm_place m ns)
 pub perm_merged : (ms ns : List Listed) → Perm (ms ++ ns) (merged ms ns)
 perm_merged [] ns = perm-refl ns
 perm_merged (m ∷ ms) ns = then_by (keep (perm_merged ms ns)) (perm_place m (merged ms ns))
-
-pub map-append : {A B : Type 0} (f : A → B) (xs ys : List A) → map f (xs ++ ys) ≡ map f xs ++ map f ys
-map-append f [] ys = refl
-map-append f (x ∷ xs) ys = ap (λ zs. f x ∷ zs) (map-append f xs ys)
 
 pub tensors_joined : (g h : TensorGroup) → Perm (tensors g ++ tensors h) (map (λ m. m.node) (merged g.members h.members))
 tensors_joined g h =

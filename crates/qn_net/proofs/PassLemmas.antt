@@ -6,13 +6,13 @@ use Rattle.qn_index.specs.Legs.{SectorValue, LegValue}
 use Rattle.qn_index.specs.Tuples.{tuples}
 use Rattle.qn_value.specs.Networks.{End, Assignment, Parities, values, at_values}
 use Rattle.qn_value.specs.Magnitudes.{total, mag_at, first_passing}
-use Rattle.qn_value.proofs.MagnitudeLemmas.{mag_signed}
 use Rattle.qn_net.specs.Groups.{TensorGroup}
 use Rattle.qn_net.specs.Steps.{Step, State, result, after, IsStepAt}
 use Rattle.qn_net.specs.Steps.Step.{pair, trace}
 use Rattle.qn_net.specs.Parts.{part, IsMadeAsPart, AreMadeAsParts}
 use Rattle.qn_net.specs.Carried.{IsSoundState, AllSound}
 use Rattle.qn_net.specs.Passing.{step_magnitude, result_legs, place_of_step, first_passing_step, made}
+use Rattle.qn_gauss.proofs.Signs.{mag_signed}
 
 -- a group is seen as it is made, or as its part
 pub mag_part : (par : Parities) (g : TensorGroup) → IsMadeAsPart par g → (a : Assignment) → mag_at (part par g) a ≡ mag_at g.node a

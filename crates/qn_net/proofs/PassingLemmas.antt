@@ -1,5 +1,5 @@
 -- Passing places over admissible tuples.
-use Rattle.std.proofs.Common.{◌≡◌, ℕ, zero, suc, ◌+◌, ◌<◌, ℤ, Bool, true, false, ◌&&◌, cond, Some, None, List, [], ◌∷◌, ◌++◌, refl, sym, ◌∙◌, ap, ap₂, subst, map, filter, length, nat_lt, ◌⊎◌, inl, inr, int_eq, arith}
+use Rattle.std.proofs.Common.{◌≡◌, ℕ, zero, suc, ◌+◌, ◌<◌, ℤ, Bool, true, false, ◌&&◌, cond, Some, None, List, [], ◌∷◌, ◌++◌, refl, sym, ◌∙◌, ap, ap₂, subst, map, filter, nat_lt, ◌⊎◌, inl, inr, int_eq, arith}
 use Rattle.std.specs.List.{All, range_with_len}
 use Rattle.std.specs.Cmp.Lexicographic.{pointwise}
 use Rattle.std.proofs.lemmas.Bool.{false≢true}
@@ -13,7 +13,7 @@ use Rattle.qn_charge.specs.Charges.{IsGroup, zero_charge, sum_charge}
 use Rattle.qn_charge.specs.Laws.{associative_charge, commutative_charge, zero_is_neutral, canonical_zero, canonical_sum}
 use Rattle.qn_index.specs.Legs.{SectorValue, LegValue, charge_at}
 use Rattle.qn_index.specs.Tuples.{turned, net, IsTuple, tuples, admits}
-use Rattle.qn_index.specs.Places.{IsValues, sectors_at, values_at, block_size}
+use Rattle.qn_index.specs.Places.{sectors_at, values_at, block_size}
 use Rattle.qn_index.proofs.Places.{back, values_in}
 use Rattle.qn_index.proofs.Shapes.{tuple_contained}
 use Rattle.qn_value.specs.Networks.{End, Node, Bond, Assignment, Parities, same_end, odd_flux, values, at_values, kept as kept_legs, pairwise, traced, AreWithin, IsNetwork}
@@ -33,11 +33,12 @@ use Rattle.qn_net.specs.Steps.Step.{pair, trace}
 use Rattle.qn_net.specs.Plans.{start}
 use Rattle.qn_net.specs.Carried.{IsSoundState, AllSound}
 use Rattle.qn_net.specs.Passing.{result_magnitude, result_legs, step_magnitude, place_of_step, first_passing_step, first_admissible_step, made}
-use Rattle.qn_net.proofs.PartLemmas.{map-append, perm_merged}
+use Rattle.qn_net.proofs.PartLemmas.{perm_merged}
 use Rattle.qn_net.proofs.PlanSteps.{signed_node}
 use Rattle.qn_net.proofs.PlanTwist.{ends_distinct}
 use Rattle.qn_block.proofs.Lookup.{values_length}
 use Rattle.qn_value.proofs.BlocksLemmas.{length-legs}
+use Rattle.std.proofs.lemmas.List.{map-append}
 
 -- the networks of a step alone
 

@@ -12,7 +12,7 @@ use Rattle.qn_sign.proofs.Order.{is_in-append, is_in-perm}
 use Rattle.qn_sign.proofs.Members.{is_in-filter, perm_split}
 use Rattle.qn_value.proofs.Sums.{label_test}
 use Rattle.qn_value.proofs.NetLaws.{ends-labels, word-append}
-use Rattle.qn_net.proofs.PartLemmas.{map-append}
+use Rattle.std.proofs.lemmas.List.{map-append}
 
 abbrev pub end_at : ℤ → Bool → End
 end_at l i = record { label = l; inward = i }
@@ -46,7 +46,7 @@ finds l (g ∷ gs) = go (has_label l g) refl (find l gs) (finds l gs)
 
 -- bonds that are chosen by their labels
 
-labels-select : (q : ℤ → Bool) (bs : List Bond) → labels (select q bs) ≡ filter q (labels bs)
+pub labels-select : (q : ℤ → Bool) (bs : List Bond) → labels (select q bs) ≡ filter q (labels bs)
 labels-select q [] = refl
 labels-select q (b ∷ bs) = go (q b.label) (labels-select q bs)
   where

@@ -19,11 +19,12 @@ use Rattle.qn_sign.proofs.OrderSigns.{sign_itself}
 use Rattle.qn_value.proofs.Sums.{label_test}
 use Rattle.qn_value.proofs.NetLaws.{end_test, exchanges-pairs, word-append}
 use Rattle.qn_value.proofs.Steps.{final_law}
-use Rattle.qn_net.proofs.PartLemmas.{map-append, made_as_part}
+use Rattle.qn_net.proofs.PartLemmas.{made_as_part}
 use Rattle.qn_net.proofs.PlanSteps.{all_tensors, AreMade, IsKeeping, pair_value, pair_keeps}
 use Rattle.qn_net.proofs.PlanTrace.{trace_value, trace_keeps}
 use Rattle.qn_net.proofs.Numbers.{start_ordered}
 use Rattle.qn_net.proofs.PlanFind.{none_word, FindsFirst, finds, select_is, select_split, shared_within, shared_once, coupled_within, bond_ends, both_on}
+use Rattle.std.proofs.lemmas.List.{map-append}
 
 made_parts : (par : Parities) (gs : List TensorGroup) → AreMade par gs → IsDistinct same_end (word (all_tensors gs)) → AreMadeAsParts par gs
 made_parts par [] m d = tt

@@ -12,7 +12,8 @@ use Rattle.qn_value.proofs.NetLaws.{end_test, word-append, product-append, signe
 use Rattle.qn_value.proofs.Steps.{block_whole, mid_distinct, perm_word, step_value, step_network, step_homogeneous, net_moved}
 use Rattle.qn_net.proofs.Homogeneous.{homogeneous_first, homogeneous_second, homogeneous-append}
 use Rattle.qn_net.proofs.Numbers.{order_pair}
-use Rattle.qn_net.proofs.PartLemmas.{signed-comm, map-append, tensors_joined, IsMade, joined_made}
+use Rattle.qn_net.proofs.PartLemmas.{signed-comm, tensors_joined, IsMade, joined_made}
+use Rattle.std.proofs.lemmas.List.{map-append}
 
 -- a sign that a tensor takes up
 

@@ -6,8 +6,9 @@ use Rattle.qn_net.specs.Groups.{TensorGroup, nodes, tensors, closed}
 use Rattle.qn_value.proofs.Steps.{order_law, order_network, block_value, block_network, block_homogeneous, block_whole, mid_distinct}
 use Rattle.qn_net.proofs.Homogeneous.{homogeneous_first, homogeneous_second, homogeneous-append}
 use Rattle.qn_net.proofs.Numbers.{order_trace}
-use Rattle.qn_net.proofs.PartLemmas.{map-append, closed_made}
+use Rattle.qn_net.proofs.PartLemmas.{closed_made}
 use Rattle.qn_net.proofs.PlanSteps.{all_tensors, all_tensors-append, AreMade, made_first, made_second, made-append, middle_distinct, IsKeeping}
+use Rattle.std.proofs.lemmas.List.{map-append}
 
 module _ (par : Parities) (opens : List End) (before : List TensorGroup) (g : TensorGroup) (behind : List TensorGroup) (all bonds left : List Bond)
     (k : IsKeeping par opens (before ++ (g ∷ behind)) all) (split : Perm all (bonds ++ left)) (within : AreWithin bonds (g.node ∷ [])) where

@@ -11,9 +11,9 @@ use Rattle.qn_net.specs.Parts.{AreMadeAsParts}
 use Rattle.qn_sign.proofs.Order.{distinct-perm, distinct_first, distinct_second}
 use Rattle.qn_value.proofs.Sums.{label_test, perm-map}
 use Rattle.qn_value.proofs.NetLaws.{end_test, word-append, labels_distinct}
-use Rattle.qn_net.proofs.PartLemmas.{map-append}
 use Rattle.qn_net.proofs.PlanSteps.{signed_node}
 use Rattle.qn_value.proofs.TwistLemmas.{twist_pair_law, twist_second_law, twist_trace_law}
+use Rattle.std.proofs.lemmas.List.{map-append}
 
 -- the legs of one of the groups are distinct
 pub ends_distinct : (before : List TensorGroup) (g : TensorGroup) (behind : List TensorGroup) → IsDistinct same_end (word (nodes (before ++ (g ∷ behind)))) → IsDistinct same_end g.node.ends

@@ -1,7 +1,7 @@
 -- What a step makes of tensors with labels is the tensor of its result.
 use Rattle.std.proofs.lemmas.Simd.{map-map}
 use mathlib.Core.Path.{fun_ext}
-use Rattle.std.proofs.Common.{◌≡◌, ◌≢◌, ◌<◌, ℕ, suc, ◌+◌, ℤ, pos, Bool, true, false, List, [], ◌∷◌, ◌++◌, refl, sym, ◌∙◌, ap, ap₂, subst, map, length, get_or, ◌%◌, append-nil, ◌⊎◌, inl, inr, arith}
+use Rattle.std.proofs.Common.{◌≡◌, ◌≢◌, ◌<◌, ℕ, ◌+◌, ℤ, pos, Bool, true, false, List, [], ◌∷◌, ◌++◌, refl, sym, ◌∙◌, ap, ap₂, subst, map, length, get_or, append-nil, ◌⊎◌, inl, inr, arith}
 use Rattle.std.specs.List.{All, flat_map}
 use Rattle.std.proofs.lemmas.List.{length-map, length-append, get_or_append_left, get_or-append-add}
 use Rattle.std.proofs.lemmas.List.Elements.{All-filter, All-map, All-contains_itself}
@@ -35,21 +35,14 @@ use Rattle.qn_net.proofs.Held.{AreNodesOf, IsBeyond, entry_range, range_of, dims
 use Rattle.qn_net.proofs.CoupledNodes.{label_in, longs, IsCoupledBy, local, local_bonds, local_opens, names, alike, apart, local_net, bonds_are, opens_are, open_legs_are, same_entry}
 use Rattle.qn_net.proofs.NamedCouples.{coupled_by, coupling, label_among}
 use Rattle.qn_net.proofs.SizedNodes.{same_magnitude}
+use Rattle.qn_value.proofs.TensorBlocks.{values_long}
 
 -- maps that agree at each element
 pub map_all : {A B : Type 0} (f g : A → B) (xs : List A) → All (λ x. f x ≡ g x) xs → map f xs ≡ map g xs
 map_all f g [] h = refl
 map_all f g (x ∷ xs) h = ap₂ ◌∷◌ (all_first (λ x. f x ≡ g x) x xs h) (map_all f g xs (all_others (λ x. f x ≡ g x) x xs h))
 
-all_into : {A : Type 0} (P Q : A → Type 0) (xs : List A) → ((x : A) → P x → Q x) → All P xs → All Q xs
-all_into P Q xs f h k d l = f (get_or xs k d) (h k d l)
-
 -- places of a tensor
-
-values_long : (ls : List LegValue) (t : List ℕ) (o : ℕ) → IsTuple ls t → length (values_at ls t o) ≡ length ls
-values_long [] t o h = refl
-values_long (l ∷ ls) [] o h = absurd h
-values_long (l ∷ ls) (s ∷ t) o h = ap suc (values_long ls t (o % block_size ls t) h.1)
 
 -- sums of magnitudes that agree pass at the same place
 pub passing_same : (f g : List ℕ → ℕ) (ls : List LegValue) (ts : List (List ℕ)) → All (IsTuple ls) ts → ((xs : List ℕ) → length xs ≡ length ls → f xs ≡ g xs) →

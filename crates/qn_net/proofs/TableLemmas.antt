@@ -1,8 +1,8 @@
 -- The table of legs by their labels.
 use Rattle.std.proofs.Common.{◌≡◌, ◌≢◌, ◌≤◌, ◌<◌, ℕ, zero, suc, ◌+◌, ◌*◌, ◌==◌, ℤ, pos, negsuc, unsigned_abs, Bool, true, false, not, ◌&&◌, cond, List, [], ◌∷◌, length, take, get_or, set, replicate, refl, sym, ◌∙◌, ap, ap₂, subst, int_eq, arith}
 use Rattle.std.proofs.lemmas.Bool.{false≢true, ne_eqb}
-use Rattle.std.proofs.lemmas.List.{get_or-set_same, get_or-set_other, length-set, length-replicate, get_or-replicate, length-take-le}
-use Rattle.std.proofs.lemmas.List.Sums.{count_by_more_no, count_by_more_yes, count_by-le-length, sum_by-cons}
+use Rattle.std.proofs.lemmas.List.{get_or-set_same, get_or-set_other, length-set, length-replicate, get_or-replicate}
+use Rattle.std.proofs.lemmas.List.Sums.{count_by_more_no, count_by_more_yes, sum_by-cons}
 use Rattle.qn_value.specs.Networks.{End, same_bool, same_end}
 use Rattle.qn_value.specs.Labels.{is_positive}
 use Rattle.qn_value.proofs.NetLaws.{end_test}
@@ -112,14 +112,6 @@ fill_none all = record {
   counted = λ e h. get_or-replicate {A = ℕ} 4100 (cell e) 0 0 (cell_below e h.1);
   spotted = λ e h t. absurd (omega (arith, t));
 }
-
--- the count stays below the number of legs
-pub fill_small : (all : List End) (i : ℕ) (e : End) (counts spots : List ℕ) → i < length all → IsLabel e.label → IsFilled all (take i all) counts spots → get_or counts (cell e) 0 ≤ i
-fill_small all i e counts spots l h f =
-    let a : tally e (take i all) ≤ length (take i all) = count_by-le-length (λ x. same_end x e) (take i all) in
-    let b : length (take i all) ≡ i = length-take-le i all (omega arith) in
-    let c : get_or counts (cell e) 0 ≡ tally e (take i all) = f.counted e h in
-    omega arith
 
 -- the legs with a label are its two ends
 pub legs_are_ends : (l : ℤ) (es : List End) → legs_with l es ≡ tally (record { label = l; inward = true }) es + tally (record { label = l; inward = false }) es

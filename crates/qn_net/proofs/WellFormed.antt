@@ -26,19 +26,15 @@ use Rattle.qn_net.proofs.TableLemmas.{legs_are_ends}
 use Rattle.qn_net.proofs.LineLemmas.{none_zero, none_above, positives_all}
 use Rattle.qn_net.proofs.LabelledLemmas.{have_labels}
 use Rattle.qn_net.proofs.MeetingLemmas.{labels_long, weight, counts, tally-cons, with-cons, one_each, slot_end, ends_long}
-use Rattle.qn_net.proofs.OpenLemmas.{positive_suc, stands_below, below_open}
-use Rattle.qn_index.proofs.Admitted.{same_tests}
+use Rattle.qn_net.proofs.OpenLemmas.{positive_suc, stands_below, below_open, no_weight}
+use Rattle.qn_facts.proofs.Booleans.{same_tests}
 
 -- ends in a list, and how often they stand
 
-no_weight : (b : Bool) → b ≡ false → weight b ≡ 0
-no_weight true e = absurd (false≢true (sym e))
-no_weight false e = refl
-
-turned : (e f : End) → same_end e f ≡ true → same_end f e ≡ true
+pub turned : (e f : End) → same_end e f ≡ true → same_end f e ≡ true
 turned e f h = ap (λ x. same_end x e) (sym (end_test.equal e f h)) ∙ end_test.itself e
 
-in_stands : (e : End) (es : List End) → is_in same_end e es ≡ true → 0 < tally e es
+pub in_stands : (e : End) (es : List End) → is_in same_end e es ≡ true → 0 < tally e es
 in_stands e [] h = absurd (false≢true h)
 in_stands e (x ∷ es) h = go (or_cases (same_end e x) (is_in same_end e es) h) (in_stands e es)
   where
@@ -163,7 +159,7 @@ uniform_from (s ∷ ss) h = (suits s ss (λ j l e. h (suc j) 0 (omega arith) (om
 
 -- the labels of an order
 
-in_contains : (xs : List ℤ) (l : ℤ) → is_in int_eq l xs ≡ true → Contains xs l
+pub in_contains : (xs : List ℤ) (l : ℤ) → is_in int_eq l xs ≡ true → Contains xs l
 in_contains [] l h = absurd (false≢true h)
 in_contains (x ∷ xs) l h = go (or_cases (int_eq l x) (is_in int_eq l xs) h) (in_contains xs l)
   where
@@ -187,7 +183,7 @@ distinct_order (x ∷ xs) h = (go (is_in int_eq x xs) refl, distinct_order xs (�
         let e : label_at xs c.0 ≡ x = get_or_default xs c.0 (pos 0) x c.1 ∙ c.2 in
         absurd (h (suc c.0) (omega (arith, c.1)) (0, omega arith, sym e))
 
-push_distinct : (xs : List ℤ) (y : ℤ) → IsDistinct int_eq xs → is_in int_eq y xs ≡ false → IsDistinct int_eq (xs ++ y ∷ [])
+pub push_distinct : (xs : List ℤ) (y : ℤ) → IsDistinct int_eq xs → is_in int_eq y xs ≡ false → IsDistinct int_eq (xs ++ y ∷ [])
 push_distinct [] y d h = (refl, tt)
 push_distinct (x ∷ xs) y d h = (
   push_in x xs d.0 (go (int_eq x y) refl),

@@ -1,3 +1,5 @@
+//! Why tensors with labels are no network.
+
 use std::alloc::{AllocError, AllocFailed};
 use thiserror::Error;
 
@@ -22,7 +24,8 @@ pub enum NetFault {
     /// The negative label nearest to 0 that is missing above one that stands.
     #[error("label {label} is missing")]
     OpenLabels { label: i64 },
-    /// The place of the order that is no positive label or a repeated one; one past the end where the order lacks a label.
+    /// The place of the order that is no positive label or a repeated one; one past the end where the order lacks a
+    /// label.
     #[error("place {place} of the order is wrong")]
     Order { place: usize },
     /// Memory was wanting.

@@ -2,7 +2,8 @@
 
 ghost use Rattle.qn_net.specs.FuseSteps.{FuseEntryLaw, FuseStepLaw, MemberTablesLaw, NeverFirstLaw, PlacesSignLaw, RolesLaw};
 
-/// The sums of magnitudes of a step that fuses or splits have one summand at most, which is an entry of the other tensor.
+/// The sums of magnitudes of a step that fuses or splits have one summand at most, which is an entry of the other
+/// tensor.
 pub fn fuse_step_law()
     ensures { FuseStepLaw }
 {}

@@ -72,7 +72,8 @@ fn leg_end(label: &i64, dir: Dir) -> LineEnd
 /// Adds the ends that the legs of a tensor are.
 fn add_ends<const K: usize>(list: &mut Vec<LineEnd>, t: &NetTensor<K>) -> Result<(), AllocError>
     requires { length t.now.labels ≡ length (member_tensor t.now.member).legs }
-    ensures { IfOk result (λ _. list.new.items ≡ list.old.items ++ ends (slots_of (member_tensor t.now.member).legs t.now.labels)) }
+    ensures { IfOk result (λ _.
+        list.new.items ≡ list.old.items ++ ends (slots_of (member_tensor t.now.member).legs t.now.labels)) }
 {
     let labels = t.labels();
     for j in 0..labels.len() {

@@ -1,4 +1,5 @@
-//! Networks of tensors: what they are, their plans, the parts of a network, and where the sums of a plan grow too large.
+//! Networks of tensors: what they are, their plans, the parts of a network, and where the sums of a plan grow too
+//! large.
 //!
 //! The laws are functions with empty bodies, whose clauses are the laws.
 #![tactic(auto)]

@@ -7,24 +7,7 @@ ghost use Rattle.qn_net.specs.Refusals.{HasUnequalSectors, HaveLabels, AreOpposi
 
 use crate::member::NetTensor;
 use crate::table::LabelTable;
-use qn_index::Sector;
-
-/// Whether two lists of sectors are the same.
-fn same_sectors<const K: usize>(a: &[Sector<K>], b: &[Sector<K>]) -> bool
-    ensures { IsTrue result ↔ (a.now ≡ b.now) }
-{
-    if a.len() != b.len() {
-        return false;
-    }
-    for i in 0..a.len() {
-        let s = &a[i];
-        let t = &b[i];
-        if !s.same(t) {
-            return false;
-        }
-    }
-    true
-}
+use qn_index::{Sector, same_sectors};
 
 /// The sectors of the k-th of all legs.
 fn sectors_of<const K: usize>(tensors: &[NetTensor<K>], k: usize) -> &[Sector<K>]
@@ -66,7 +49,8 @@ pub(crate) fn first_unequal_sectors<const K: usize>(
 ) -> Option<u32>
     requires opposite { AreOpposite tensors.now }
     requires table { table.now ≡ ends_of_members tensors.now }
-    ensures { MatchOption result (HasNone (HasUnequalSectors (slots_of_members tensors.now))) (IsFirst (HasUnequalSectors (slots_of_members tensors.now))) }
+    ensures { MatchOption result (HasNone (HasUnequalSectors (slots_of_members tensors.now))) (
+        IsFirst (HasUnequalSectors (slots_of_members tensors.now))) }
 {
     table.known();
     for n in 1..1025u32 {

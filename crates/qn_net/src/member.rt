@@ -1,3 +1,5 @@
+//! What stands in a network: a tensor, the fuse or the split of a combiner; and its leg at each place.
+
 ghost use Rattle.std.specs.Prelude.{◌≡◌, ◌<◌, ◌==◌, ◌+◌, IfOk, cond, length, slice_index_or};
 ghost use Rattle.qn_index.specs.Legs.{flipped, other_way};
 ghost use Rattle.qn_block.specs.Tables.{fuse_tensor, split_tensor};
@@ -71,7 +73,8 @@ fn in_fuse<const K: usize>(c: &Combiner<K>, leg: usize) -> &Leg<K>
 /// The leg of a combiner that stands at a place of its split table: the fused leg last, and flipped.
 fn in_split<const K: usize>(c: &Combiner<K>, leg: usize) -> &Leg<K>
     requires { leg < length (split_tensor c.now).legs }
-    ensures { slice_index_or (split_tensor c.now).legs leg no_leg ≡ cond (leg == length c.now.legs) (flipped result.now) result.now }
+    ensures { slice_index_or (split_tensor c.now).legs leg no_leg ≡
+        cond (leg == length c.now.legs) (flipped result.now) result.now }
 {
     let legs = c.legs();
     if leg == legs.len() {

@@ -59,7 +59,8 @@ fn missing(n: u32) -> NetFault
     }
 }
 
-/// The first fault of the lines of a network: counts of labels, then arrows, then sectors, then a gap among the open labels.
+/// The first fault of the lines of a network: counts of labels, then arrows, then sectors, then a gap among the open
+/// labels.
 fn line_fault<const K: usize>(tensors: &[NetTensor<K>], table: &LabelTable) -> Option<NetFault>
     requires labels { HaveLabels tensors.now }
     requires table { table.now ≡ ends_of_members tensors.now }
@@ -165,7 +166,8 @@ fn chosen_order(
     }
 }
 
-/// A network: members whose positive labels pair up legs that meet, open legs -1, -2, .., and an order of the positive labels.
+/// A network: members whose positive labels pair up legs that meet, open legs -1, -2, .., and an order of the positive
+/// labels.
 #[derive(Debug, Drop)]
 pub struct Network<const K: usize> {
     group: Group<K>,

@@ -13,7 +13,8 @@ pub fn lines_law()
     ensures { LinesLaw }
 {}
 
-/// The contraction of the tensors of two groups is the tensor of the pair step's result, and passes where the step does.
+/// The contraction of the tensors of two groups is the tensor of the pair step's result, and passes where the step
+/// does.
 pub fn pair_step_law()
     ensures { PairStepLaw }
 {}

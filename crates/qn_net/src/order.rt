@@ -8,7 +8,8 @@ use std::alloc::{AllocError, Global};
 
 /// The number of a label from 1 to 1,024.
 fn positive_number(label: &i64) -> Option<u32>
-    ensures { MatchOption result ((n : ℕ) → 0 < n → n ≤ 1024 → label.now ≡ pos n → ⊥) (λ n. (label.now ≡ pos n) × (0 < n) × (n ≤ 1024)) }
+    ensures { MatchOption result ((n : ℕ) → 0 < n → n ≤ 1024 → label.now ≡ pos n → ⊥) (λ n.
+        (label.now ≡ pos n) × (0 < n) × (n ≤ 1024)) }
 {
     let label = *label;
     if label > 0 && label <= 1024 {
@@ -42,7 +43,8 @@ fn new_number(label: &i64, table: &LabelTable, seen: &[bool]) -> Option<u32>
 /// Whether a positive label stands that was not met.
 fn lacks(table: &LabelTable, seen: &[bool]) -> bool
     requires { length seen.now ≡ 1025 }
-    ensures { IsTrue result ↔ ((n : ℕ) × (0 < n) × (n ≤ 1024) × (0 < legs_with (pos n) table.now) × (slice_index_or seen.now n false ≡ false)) }
+    ensures { IsTrue result ↔
+        ((n : ℕ) × (0 < n) × (n ≤ 1024) × (0 < legs_with (pos n) table.now) × (slice_index_or seen.now n false ≡ false)) }
 {
     for n in 1..1025u32 {
         if is_lacking(table, seen, n) {
@@ -69,7 +71,8 @@ fn none_seen(alloc: Global) -> Result<Vec<bool>, AllocError>
     vec![in alloc; false; 1025]
 }
 
-/// The first place of the order that is no positive label or a repeated one, or one past its end where it lacks a label.
+/// The first place of the order that is no positive label or a repeated one, or one past its end where it lacks a
+/// label.
 pub(crate) fn order_fault(
     alloc: Global,
     order: &[i64],

@@ -1,3 +1,5 @@
+//! Networks at fault, and networks that are right, with orders and with combiners.
+
 ghost use Rattle.std.specs.Prelude.{◌≡◌, ◌≤◌, ◌^◌, ◌<◌, length, IfOk};
 ghost use Rattle.std.specs.List.{All};
 ghost use Rattle.qn_charge.specs.Charges.{IsWithin, zero_charge};

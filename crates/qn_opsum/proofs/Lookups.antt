@@ -1,29 +1,28 @@
 -- The operators that terms name, their charges and their parities.
-use Rattle.std.proofs.Common.{◌≡◌, ◌≢◌, ℕ, ℤ, zero, suc, ◌+◌, ◌-◌, ◌*◌, ◌≤◌, ◌<◌, ◌^◌, ◌&&◌, ◌⊎◌, inl, inr, List, [], ◌∷◌, length, get_or, map, drop, arith, refl, ap, ◌∙◌, sym, subst, Bool, true, false, cond}
+use Rattle.std.proofs.Common.{◌≡◌, ◌≢◌, ℕ, ℤ, zero, suc, ◌+◌, ◌-◌, ◌*◌, ◌≤◌, ◌<◌, ◌&&◌, ◌⊎◌, inl, inr, List, [], ◌∷◌, length, get_or, arith, refl, ap, ◌∙◌, sym, subst, Bool, true, false, cond}
 use Rattle.std.specs.Prelude.{nat_lt}
 use Rattle.std.proofs.lemmas.Bool.Decides.{nat_tests}
-use Rattle.std.specs.Cmp.Lexicographic.{slice_cmp, nat_list_cmp_total, pointwise}
-use Rattle.std.specs.Ordering.{int_eq, nat_cmp}
+use Rattle.std.specs.Cmp.Lexicographic.{nat_list_cmp_total, pointwise}
+use Rattle.std.specs.Ordering.{int_eq}
 use Rattle.std.specs.declared.cmp.Ordering.TheVariants.{Less, Equal}
-use Rattle.std.specs.List.{All, AllPairs}
 use Rattle.std.proofs.lemmas.Cmp.{tied_itself}
 use Rattle.std.proofs.lemmas.Bool.{cases_lt, false≢true}
 use Rattle.std.proofs.lemmas.List.{get_or-map, get_or_default, get_or_past, length-map}
 use Rattle.qn_sign.specs.Sign.{xor}
-use Rattle.qn_gauss.specs.Gaussian.{Gaussian, zero_g}
+use Rattle.qn_gauss.specs.Gaussian.{zero_g}
 use Rattle.qn_charge.specs.declared.factor.Factor.{Factor}
-use Rattle.qn_charge.specs.Charges.{IsCanonical, IsGroup, IsWithin, neg_charge, parity, sum_charge, zero_charge}
+use Rattle.qn_charge.specs.Charges.{IsCanonical, IsGroup, IsWithin, neg_charge, parity}
 use Rattle.qn_charge.specs.Charges as charges
 use Rattle.qn_charge.specs.Laws.{parity_adds, parity_of_neg}
-use Rattle.qn_index.specs.Legs.{charge_at, parity_at, total}
+use Rattle.qn_index.specs.Legs.{charge_at, parity_at}
 use Rattle.qn_value.specs.Tensors.{same_values}
 use Rattle.qn_value.proofs.RowsLemmas.{same_values-itself}
 use Rattle.qn_value.proofs.Values.{same_values-equal}
 use Rattle.std.specs.Cmp.Rules.{signed_items}
 use Rattle.qn_sites.specs.Operators.{OpValue, IsOperator, carried, element}
-use Rattle.qn_sites.specs.Sites.{AreAscending, IsOn, IsSite, SiteValue, name_at, names, no_operator}
-use Rattle.qn_sites.proofs.Ascents.{IsBelow, from_pairs, to_pairs}
-use Rattle.qn_opsum.specs.Strings.{HasParities, Sites}
+use Rattle.qn_sites.specs.Sites.{AreAscending, IsSite, SiteValue, name_at, names, no_operator}
+use Rattle.qn_sites.proofs.Ascents.{IsBelow}
+use Rattle.qn_opsum.specs.Strings.{HasParities}
 use Rattle.qn_opsum.specs.Sums.{TermValue, no_site, op_at, op_for, ops_for, place_of, site_at, sites_of}
 use Rattle.qn_opsum.specs.Refusals.{AreSites, BadCount, IsGood, IsUnknown, factor_at}
 
@@ -112,14 +111,6 @@ pub found_is : (os : List OpValue) (i : ℕ) (n : List ℕ) (o : OpValue) → Ar
 found_is os i n o a lt e is =
     let place = place_is os i n a lt e in
     (is ∙ (get_or_default os i o no_operator lt ∙ ap (op_at os) (sym place)), subst (λ k. k < length os) (sym place) lt)
-
--- what holds below i and at i
-pub one_more : (P : ℕ → Type 0) (i : ℕ) → ((j : ℕ) → j < i → P j) → P i → (j : ℕ) → j < i + 1 → P j
-one_more P i below here j lt = by (cases_lt j i)
-  where
-    by : (j < i) ⊎ (i ≤ j) → P j
-    by (inl low) = below j low
-    by (inr high) = let same : i ≡ j = omega arith in subst P same here
 
 -- an operator of a good term is on one of the sites and known there
 pub good_at : (ss : List SiteValue) (gs : List (ℕ × List ℕ)) (i : ℕ) (f : ℕ × List ℕ) → IsGood ss gs → i < length gs → f ≡ get_or gs i f → (0 < f.0) × (f.0 ≤ length ss) × (IsUnknown ss f → ⊥)

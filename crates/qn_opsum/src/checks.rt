@@ -1,3 +1,5 @@
+//! What is wrong with the terms of a sum, first in order.
+
 ghost use Rattle.std.specs.Prelude.{◌≡◌, ◌<◌, ◌≤◌, ◌⊎◌, ◌↔◌, ℕ, length, IfErr, IfOk, IsTrue, MatchOption};
 ghost use Rattle.std.specs.List.{All};
 ghost use Rattle.qn_charge.specs.Charges.{IsCanonical, IsWithin};
@@ -150,7 +152,8 @@ fn first_other<const K: usize>(
     requires sites { AreSites group.now sites.now }
     requires good { AllGood sites.now terms.now }
     requires charge { charge.now ≡ charge_of group.now sites.now (term_at terms.now 0).factors }
-    ensures { MatchOption result (HasNone (OtherCharge group.now sites.now terms.now)) (IsFirst (OtherCharge group.now sites.now terms.now)) }
+    ensures { MatchOption result (HasNone (OtherCharge group.now sites.now terms.now)) (
+        IsFirst (OtherCharge group.now sites.now terms.now)) }
 {
     for i in 0..terms.len() {
         if !term_charge(group, sites, terms[i].factors()).same(charge) {

@@ -1,3 +1,5 @@
+//! Why a sum is refused.
+
 use std::alloc::{AllocError, AllocFailed};
 use thiserror::Error;
 

@@ -1,4 +1,6 @@
 //! Sums of products of operators on sites.
+//!
+//! For automata, generated workloads and documents. It hands on `OpSum`, checked, with its terms in site order.
 #![tactic(auto)]
 
 mod checks;

@@ -1,3 +1,5 @@
+//! Terms in site order, with the sign that sorting gives.
+
 ghost use Rattle.std.specs.Prelude.{◌≡◌, ◌<◌, ◌&&◌, length, map, IfOk, OnOk, nat_lt};
 ghost use Rattle.qn_sign.specs.Sign.{is_odd, xor};
 ghost use Rattle.qn_gauss.specs.Gaussian.{signed};
@@ -98,8 +100,15 @@ impl<const K: usize> OpSum<K> {
     pub fn normal(&self, term: usize) -> Result<Normal, AllocError>
         requires { term < length self.now.terms }
         ensures order { IfOk result (λ n. IsSiteOrder (term_at self.now.terms term).factors n.factors) }
-        ensures sign { IfOk result (λ n. n.negative ≡ is_odd (inversions (sites_of self.now.group self.now.sites) (map (factor_of self.now.sites) (term_at self.now.terms term).factors))) }
-        ensures string { IfOk result (λ n. (t s : State) → string_of self.now.group self.now.sites (term_at self.now.terms term).factors t s ≡ signed n.negative (string_of self.now.group self.now.sites n.factors t s)) }
+        ensures sign { IfOk result (λ n.
+            n.negative ≡
+            is_odd (
+            inversions (sites_of self.now.group self.now.sites) (
+            map (factor_of self.now.sites) (term_at self.now.terms term).factors))) }
+        ensures string { IfOk result (λ n.
+            (t s : State) →
+            string_of self.now.group self.now.sites (term_at self.now.terms term).factors t s ≡
+            signed n.negative (string_of self.now.group self.now.sites n.factors t s)) }
     {
         self.known();
         normal_of(
@@ -121,8 +130,12 @@ fn normal_of<const K: usize>(
     requires sites { AreSites group.now sites.now }
     requires good { IsGood sites.now factors.now }
     ensures order { IfOk result (λ n. IsSiteOrder factors.now n.factors) }
-    ensures sign { IfOk result (λ n. n.negative ≡ is_odd (inversions (sites_of group.now sites.now) (map (factor_of sites.now) factors.now))) }
-    ensures string { IfOk result (λ n. (t s : State) → string_of group.now sites.now factors.now t s ≡ signed n.negative (string_of group.now sites.now n.factors t s)) }
+    ensures sign { IfOk result (λ n.
+        n.negative ≡ is_odd (inversions (sites_of group.now sites.now) (map (factor_of sites.now) factors.now))) }
+    ensures string { IfOk result (λ n.
+        (t s : State) →
+        string_of group.now sites.now factors.now t s ≡
+        signed n.negative (string_of group.now sites.now n.factors t s)) }
 {
     let marks = marks_of(alloc, group, sites, factors)?;
     let negative = turns(&marks);

@@ -1,3 +1,5 @@
+//! A sum of products of operators on sites.
+
 ghost use Rattle.std.specs.Prelude.{◌≡◌, ◌<◌, ◌≤◌, length, IfOk, IfErr};
 ghost use Rattle.std.specs.List.{All};
 ghost use Rattle.qn_sites.specs.Sites.{SiteValue};
@@ -42,7 +44,9 @@ impl<const K: usize> OpSum<K> {
         requires some { 0 < length sites.items }
         requires few { length sites.items ≤ 64 }
         requires groups { All (λ (s : SiteValue). s.group ≡ group) sites.items }
-        ensures ok { IfOk result (λ v. v ≡ record { group = group.entry; sites = sites.entry.items; terms = terms.items; flux = charge_of group.entry sites.entry.items (term_at terms.items 0).factors }) }
+        ensures ok { IfOk result (λ v.
+            v ≡
+            record { group = group.entry; sites = sites.entry.items; terms = terms.items; flux = charge_of group.entry sites.entry.items (term_at terms.items 0).factors }) }
         ensures err { IfErr result (IsSumFault group.entry sites.entry.items terms.items) }
     {
         known_sites(&group, &sites);

@@ -1,3 +1,5 @@
+//! A term, and its normal form.
+
 ghost use Rattle.std.specs.Prelude.{◌≡◌};
 
 use qn_gauss::Gauss;

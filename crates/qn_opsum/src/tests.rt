@@ -1,3 +1,5 @@
+//! Sums at fault, and terms in site order, compared with their operators applied to states.
+
 ghost use Rattle.std.specs.Prelude.{◌≡◌, length, IfOk};
 ghost use Rattle.std.specs.List.{All};
 ghost use Rattle.qn_sites.specs.Sites.{SiteValue};

@@ -2,7 +2,7 @@
 use Rattle.std.proofs.Common.{◌≡◌, ℕ, ◌+◌, ◌≤◌, length, take_at, length-take-le, take-append-drop, List, ◌++◌, take, drop, sym, ap, ◌∙◌, subst}
 use Rattle.std.proofs.Math.Seq.{take-add}
 use Rattle.std.proofs.KnownBytes.{Appends-trans}
-use Rattle.std.specs.Prelude.{Option, Result, Ok, Err, OnErr}
+use Rattle.std.specs.Prelude.{Option}
 use Rattle.std.specs.Io.KnownBytes.{Appends}
 
 -- the first w bytes were appended, and then n of the rest
@@ -14,8 +14,3 @@ pub copied_front : (left old new : List ℕ) (n : ℕ) → n ≤ length left →
 copied_front left old new n within is =
     let front : take n new ≡ take n left = ap (take n) is ∙ take_at _ _ n (length-take-le n left within) in
     sym (take-append-drop n left) ∙ ap (λ l. l ++ drop n left) (sym front)
-
--- what holds anyway holds of an error
-pub on_err : {T E : Type 0} (r : Result T E) (P : Type 0) → P → OnErr r P
-on_err (Ok x) P p = tt
-on_err (Err e) P p = p

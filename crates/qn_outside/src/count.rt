@@ -1,4 +1,5 @@
-// Counts that stop at their last value.
+//! Counts that stop at their last value.
+
 ghost use Rattle.std.specs.Prelude.{◌≡◌};
 ghost use Rattle.qn_outside.specs.Faults.{count_after};
 

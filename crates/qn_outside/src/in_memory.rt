@@ -1,4 +1,5 @@
-// What a source and a sink in memory share: calls that fail by their number, and copying.
+//! What a source and a sink in memory share: calls that fail by their number, and copying.
+
 ghost use Rattle.std.specs.Prelude.{◌≡◌, ◌+◌, ◌==◌, length, min, take, drop, ◌++◌};
 ghost use Rattle.std.specs.List.{list_any};
 ghost use Rattle.qn_outside.specs.InMemory.{is_listed};

@@ -1,4 +1,7 @@
-// What the program reads from and writes to: sources and sinks, in memory and of the system.
+//! Input and output: what the program reads from and writes to, in memory and of the system.
+//!
+//! For `qn_cli` and for tests that let single calls fail. It hands on the traits `Source` and `Sink`, reading to the
+//! end and writing a whole piece, with a fault for each way in which these can fail.
 #![tactic(auto)]
 
 mod adapters;

@@ -1,4 +1,5 @@
-// Reading all bytes to the end.
+//! Reading all bytes to the end.
+
 ghost use Rattle.std.specs.Prelude.{◌≡◌, ◌+◌, ◌-◌, ◌<◌, ◌≤◌, length, IfOk, OnOk, OnErr, IsErrOf};
 ghost use Rattle.std.specs.Io.KnownBytes.{Consumes, IsAtEnd, Keeps};
 ghost use Rattle.qn_outside.specs.Faults.{Rose};

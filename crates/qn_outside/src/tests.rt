@@ -1,3 +1,5 @@
+//! Reading and writing whole, with calls that fail; readers and writers of std.
+
 use crate::{
     Failed, MAX_BYTES, MemSink, MemSource, ReadAllFault, Sink, Source, StdSink, StdSource,
     WriteFault, read_all, write_all,

@@ -1,4 +1,5 @@
-// Writing a whole piece.
+//! Writing a whole piece.
+
 ghost use Rattle.std.specs.Prelude.{◌<◌, ◌≤◌, length, take, IfErr, OnOk, OnErr};
 ghost use Rattle.std.specs.Io.KnownBytes.{Appends};
 ghost use Rattle.qn_outside.specs.Faults.{Rose};

@@ -2,7 +2,6 @@
 use Rattle.std.proofs.Common.{◌≡◌, ◌≢◌, ℕ, zero, suc, ◌+◌, ◌*◌, ◌<◌, ◌&&◌, inl, inr, pos, negsuc, Bool, true, false, cond, List, [], ◌∷◌, length, map, refl, ap, ◌∙◌, arith}
 use Rattle.std.specs.Prelude.{nat_lt, slice_index_or}
 use Rattle.std.specs.List.{All}
-use Rattle.std.proofs.lemmas.List.Elements.{All-cons, All-nil}
 use Rattle.std.proofs.lemmas.Bool.Decides.{nat_tests}
 use Rattle.qn_gauss.specs.Gaussian.{Gaussian, zero_g, one_g, add_g, mul_g, neg_g}
 use Rattle.qn_charge.specs.Charges.{IsCanonical, IsWithin}
@@ -29,6 +28,8 @@ use Rattle.qn_braket.proofs.WorkedChains.{is_operator}
 use Rattle.qn_paths.specs.Examples.{far_hopping, fermion_lines, hopping, network_element, site, turned_hopping}
 use Rattle.qn_paths.specs.Paths.{SuitSites}
 use Rattle.qn_paths.specs.Sums.{site_legs, sum_element}
+use Rattle.qn_facts.proofs.Lists.{all_two, all_three}
+use Rattle.qn_facts.proofs.Numbers.{below_two}
 
 pub hop_1 : sum_element hopping (1 ∷ 0 ∷ []) (0 ∷ 1 ∷ []) ≡ number (pos 1) (pos 0)
 unfolding zero_g one_g add_g mul_g neg_g
@@ -59,16 +60,10 @@ passed_network = refl
 abbrev leg : LegValue
 leg = mode Out
 
-two_all : {X : Type 0} (P : X → Type 0) (a b : X) → P a → P b → All P (a ∷ b ∷ [])
-two_all P a b p q = All-cons P a (b ∷ []) p (All-cons P b [] q (All-nil P))
-
-three_all : {X : Type 0} (P : X → Type 0) (a b c : X) → P a → P b → P c → All P (a ∷ b ∷ c ∷ [])
-three_all P a b c p q r = All-cons P a (b ∷ c ∷ []) p (two_all P b c q r)
-
 is_leg : IsSiteLeg fermions leg
 is_leg = record {
-  sectors = record { some = omega arith; few = omega arith; dims = two_all HasDim _ _ (omega arith, omega arith) (omega arith, omega arith); bound = omega arith };
-  charges = two_all (IsOf fermions) _ _ (record { canonical = (tt, refl); within = (omega arith, tt) }) (record { canonical = (tt, refl); within = (omega arith, tt) });
+  sectors = record { some = omega arith; few = omega arith; dims = all_two HasDim _ _ (omega arith, omega arith) (omega arith, omega arith); bound = omega arith };
+  charges = all_two (IsOf fermions) _ _ (record { canonical = (tt, refl); within = (omega arith, tt) }) (record { canonical = (tt, refl); within = (omega arith, tt) });
   out = refl;
   small = omega arith;
 }
@@ -117,13 +112,13 @@ abbrev given : ℕ → GivenOp
 given i = kind_op 2 (slice_index_or fermion.ops i (record { name = []; charge = []; entries = [] }))
 
 ops_on : All (IsOn fermions leg) fermion_ops
-ops_on = three_all (IsOn fermions leg) _ _ _
+ops_on = all_three (IsOn fermions leg) _ _ _
     (on_leg (given 0) (tt, refl) (omega arith, tt) refl (by_entries (given 0) (λ h. refl) (λ h. absurd (h refl)) (λ h. refl) (λ h. refl)))
     (on_leg (given 1) (tt, refl) (omega arith, tt) refl (by_entries (given 1) (λ h. refl) (λ h. refl) (λ h. absurd (h refl)) (λ h. refl)))
     (on_leg (given 2) (tt, refl) (omega arith, tt) refl (by_entries (given 2) (λ h. refl) (λ h. refl) (λ h. refl) (λ h. absurd (h refl))))
 
 named : All (λ n. n ≢ identity_name) (names fermion_ops)
-named = three_all (λ n. n ≢ identity_name) _ _ _ (op_named 0 (omega arith)) (op_named 1 (omega arith)) (op_named 2 (omega arith))
+named = all_three (λ n. n ≢ identity_name) _ _ _ (op_named 0 (omega arith)) (op_named 1 (omega arith)) (op_named 2 (omega arith))
   where
     op_named : (i : ℕ) → i < 3 → (given i).name ≢ identity_name
     op_named i b = (is_fermion.ops i (record { name = []; charge = []; entries = [] }) b).named
@@ -138,8 +133,8 @@ are_sites = record {
   group = (tt, tt);
   some = omega arith;
   few = omega arith;
-  sites = two_all IsSite site site is_site is_site;
-  groups = two_all (λ (s : SiteValue). s.group ≡ fermions) site site refl refl;
+  sites = all_two IsSite site site is_site is_site;
+  groups = all_two (λ (s : SiteValue). s.group ≡ fermions) site site refl refl;
 }
 
 is_good : IsGood hopping.sites (term_at hopping.terms 0).factors
@@ -160,11 +155,6 @@ is_good = record { few = omega arith; sites = sites_good; names = names_good }
 one : (P : ℕ → Type 0) → P 0 → (j : ℕ) → j < 1 → P j
 one P a zero b = a
 one P a (suc j) b = absurd (omega (arith, b))
-
-two : (P : ℕ → Type 0) → P 0 → P 1 → (j : ℕ) → j < 2 → P j
-two P a c zero b = a
-two P a c (suc zero) b = c
-two P a c (suc (suc j)) b = absurd (omega (arith, b))
 
 pub is_sum : IsSum hopping
 is_sum = record {
@@ -221,7 +211,7 @@ second_entries (r ∷ x ∷ y ∷ z ∷ zs) h = longer z zs h.1.1.1
 pub is_automaton : IsAutomatonOf hopping hop
 is_automaton = record {
   count = refl;
-  tensors = two (λ j. IsTensorAt hopping j (tensor_at hop j))
+  tensors = below_two (λ j. IsTensorAt hopping j (tensor_at hop j))
       (record { shape = record { group = refl; legs = refl; flux = refl }; entries = first_entries; canonical = refl })
       (record { shape = record { group = refl; legs = refl; flux = refl }; entries = second_entries; canonical = refl });
 }
@@ -244,4 +234,4 @@ lines = record {
 }
   where
     same : (v : ℕ) (j : ℕ) → j < 2 → fermion_lines (pos 0) v ≡ (sites_in hopping).odd_value j v
-    same v = two (λ j. fermion_lines (pos 0) v ≡ (sites_in hopping).odd_value j v) refl refl
+    same v = below_two (λ j. fermion_lines (pos 0) v ≡ (sites_in hopping).odd_value j v) refl refl

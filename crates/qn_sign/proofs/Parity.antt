@@ -87,14 +87,11 @@ pairs-append r (x ∷ xs) ys =
     rw (tally-append (r x) xs ys, pairs-append r xs ys)
     (append_id (tally (r x) xs) (tally (r x) ys) (pairs r xs) (cross r xs ys) (pairs r ys))
 
-swap_id : (a b c d : Bool) → xor (xor a b) (xor c d) ≡ xor (xor a c) (xor b d)
-swap_id a b c d = grind arith
-
 pub pairs-perm : {A : Type 0} (r : A → A → Bool) → ((x y : A) → r x y ≡ r y x) → {xs ys : List A} → Perm xs ys → pairs r xs ≡ pairs r ys
 pairs-perm r symm none = refl
 pairs-perm r symm (keep {x = x} {xs = xs} {ys = ys} p) = rw (tally-perm (r x) p, pairs-perm r symm p) refl
 pairs-perm r symm (swap {x = x} {y = y} {xs = xs}) =
-    rw (symm x y) (swap_id (r y x) (tally (r x) xs) (tally (r y) xs) (pairs r xs))
+    rw (symm x y) (xor_middle (r y x) (tally (r x) xs) (tally (r y) xs) (pairs r xs))
 pairs-perm r symm (then_by p q) = pairs-perm r symm p ∙ pairs-perm r symm q
 
 -- the other way round: a double tally in the other order

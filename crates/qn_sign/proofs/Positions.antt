@@ -34,7 +34,7 @@ before-positions a (suc n) x y h k l m =
         let at : x ≡ a = eqb-true x a f in let lt : a < y = grind (arith, nat_tests) in sym (lt-ltb x y (omega arith))
     go false e false f ih = ih (grind (arith, nat_tests)) (grind (arith, nat_tests))
 
-is_in-positions : (a n x : ℕ) → a ≤ x → x < a + n → is_in ◌==◌ x (range_with_len a n) ≡ true
+pub is_in-positions : (a n x : ℕ) → a ≤ x → x < a + n → is_in ◌==◌ x (range_with_len a n) ≡ true
 is_in-positions a zero x h k = absurd (omega arith)
 is_in-positions a (suc n) x h k = go (x == a) refl (λ l. is_in-positions (a + 1) n x l (omega arith))
   where
@@ -42,7 +42,7 @@ is_in-positions a (suc n) x h k = go (x == a) refl (λ l. is_in-positions (a + 1
     go true e ih = refl
     go false e ih = ih (grind (arith, nat_tests))
 
-within_positions : (a n x : ℕ) → is_in ◌==◌ x (range_with_len a n) ≡ true → (a ≤ x) × (x < a + n)
+pub within_positions : (a n x : ℕ) → is_in ◌==◌ x (range_with_len a n) ≡ true → (a ≤ x) × (x < a + n)
 within_positions a zero x h = absurd (false≢true h)
 within_positions a (suc n) x h = go (x == a) refl (within_positions (a + 1) n x) h
   where

@@ -18,12 +18,14 @@ pub fn pair_is_removed<E>()
     ensures { (same : E → E → Bool) → IsTest same → PairIsRemoved same }
 {}
 
-/// Where two neighbouring blocks of the goal change places, the sign changes by [`block_move`](crate::block_move) of their parities.
+/// Where two neighbouring blocks of the goal change places, the sign changes by [`block_move`](crate::block_move) of
+/// their parities.
 pub fn blocks_move_in_goal<E>()
     ensures { (same : E → E → Bool) → IsTest same → BlocksMoveInGoal same }
 {}
 
-/// Where two neighbouring blocks of the word change places, the sign changes by [`block_move`](crate::block_move) of their parities.
+/// Where two neighbouring blocks of the word change places, the sign changes by [`block_move`](crate::block_move) of
+/// their parities.
 pub fn blocks_move_in_word<E>()
     ensures { (same : E → E → Bool) → IsTest same → BlocksMoveInWord same }
 {}

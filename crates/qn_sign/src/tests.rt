@@ -1,3 +1,5 @@
+//! Signs of small rearrangements, moves and chords.
+
 use super::*;
 use std::process::Abort;
 

@@ -1,5 +1,5 @@
 -- Operators that ascend by name, and one more set in among them.
-use Rattle.std.proofs.Common.{◌≡◌, ◌≢◌, ℕ, zero, suc, ◌+◌, ◌≤◌, ◌<◌, List, [], ◌∷◌, ◌++◌, length, get_or, map, take, drop, arith, refl, ap, ◌∙◌, sym, subst, Bool, true, false, cond, Contains}
+use Rattle.std.proofs.Common.{◌≡◌, ◌≢◌, ℕ, zero, suc, ◌≤◌, ◌<◌, List, [], ◌∷◌, length, get_or, arith, refl, ap, ◌∙◌, sym, subst, Bool, true, false, cond, Contains}
 use Rattle.std.specs.Cmp.Lexicographic.{slice_cmp, nat_list_cmp_total}
 use Rattle.std.specs.Ordering.{nat_cmp, is_lt, ordering_reverse}
 use Rattle.std.specs.declared.cmp.Ordering.{Ordering}
@@ -7,11 +7,11 @@ use Rattle.std.specs.declared.cmp.Ordering.TheVariants.{Less, Equal, Greater}
 use Rattle.std.specs.List.{All, AllPairs, insert}
 use Rattle.std.proofs.lemmas.Bool.{false≢true}
 use Rattle.std.proofs.lemmas.List.{get_or_default}
-use Rattle.std.proofs.lemmas.List.Elements.{All-nil, All-cons}
+use Rattle.std.proofs.lemmas.List.Elements.{All-nil, All-cons, All-tail}
 use Rattle.std.proofs.lemmas.List.Kept.{AllPairs-cons}
 use Rattle.qn_sites.specs.Operators.{OpValue}
 use Rattle.qn_sites.specs.Sites.{AreAscending, names, set_in}
-use Rattle.qn_sites.proofs.Lookup.{same_key}
+use Rattle.qn_facts.proofs.Orderings.{is_less, same_list}
 
 -- one name is below another
 abbrev pub IsBelow : List ℕ → List ℕ → Type 0
@@ -31,28 +31,20 @@ all_after n ns p k d lt = p 0 (suc k) d (omega arith) (omega arith)
 pairs_after : (n : List ℕ) (ns : List (List ℕ)) → AllPairs IsBelow (n ∷ ns) → AllPairs IsBelow ns
 pairs_after n ns p i j d lt h = p (suc i) (suc j) d (omega arith) (omega arith)
 
-all_rest : {X : Type 0} (P : X → Type 0) (x : X) (xs : List X) → All P (x ∷ xs) → All P xs
-all_rest P x xs a k d lt = a (suc k) d (omega arith)
-
-lt_less : (o : Ordering) → is_lt o ≡ true → o ≡ Less
-lt_less Less e = refl
-lt_less Equal e = absurd (cc e)
-lt_less Greater e = absurd (cc e)
-
 -- of two names that differ, one is below the other
 other_below : (m n : List ℕ) → is_lt (slice_cmp nat_cmp m n) ≡ false → m ≢ n → IsBelow n m
 other_below m n e ne = nat_list_cmp_total.antisymm n m ∙ by (slice_cmp nat_cmp m n) refl
   where
     by : (o : Ordering) → slice_cmp nat_cmp m n ≡ o → ordering_reverse (slice_cmp nat_cmp m n) ≡ Less
     by Less h = absurd (false≢true (sym e ∙ ap is_lt h))
-    by Equal h = absurd (ne (same_key m n h))
+    by Equal h = absurd (ne (same_list m n h))
     by Greater h = ap ordering_reverse h
 
 -- ---- an operator set in
 
 pub set_all : (P : List ℕ → Type 0) (o : OpValue) (ps : List OpValue) → P o.name → All P (names ps) → All P (names (set_in o ps))
 set_all P o [] h a = All-cons P o.name [] h (All-nil P)
-set_all P o (p ∷ ps) h a = go (is_lt (slice_cmp nat_cmp p.name o.name)) (set_all P o ps h (all_rest P p.name (names ps) a))
+set_all P o (p ∷ ps) h a = go (is_lt (slice_cmp nat_cmp p.name o.name)) (set_all P o ps h (All-tail P p.name (names ps) a))
   where
     go : (b : Bool) → All P (names (set_in o ps)) → All P (names (cond b (p ∷ set_in o ps) (o ∷ p ∷ ps)))
     go true ih = All-cons P p.name (names (set_in o ps)) (a 0 [] (omega arith)) ih
@@ -61,7 +53,7 @@ set_all P o (p ∷ ps) h a = go (is_lt (slice_cmp nat_cmp p.name o.name)) (set_a
 -- what holds of operators
 pub set_ops : (P : OpValue → Type 0) (o : OpValue) (ps : List OpValue) → P o → All P ps → All P (set_in o ps)
 set_ops P o [] h a = All-cons P o [] h (All-nil P)
-set_ops P o (p ∷ ps) h a = go (is_lt (slice_cmp nat_cmp p.name o.name)) (set_ops P o ps h (all_rest P p ps a))
+set_ops P o (p ∷ ps) h a = go (is_lt (slice_cmp nat_cmp p.name o.name)) (set_ops P o ps h (All-tail P p ps a))
   where
     go : (b : Bool) → All P (set_in o ps) → All P (cond b (p ∷ set_in o ps) (o ∷ p ∷ ps))
     go true ih = All-cons P p (set_in o ps) (a 0 p (omega arith)) ih
@@ -86,10 +78,10 @@ set_contains o (p ∷ ps) = go (is_lt (slice_cmp nat_cmp p.name o.name)) (set_co
 pub set_rises : (o : OpValue) (ps : List OpValue) → AllPairs IsBelow (names ps) → All (λ n. n ≢ o.name) (names ps) → AllPairs IsBelow (names (set_in o ps))
 set_rises o [] p d = AllPairs-cons IsBelow o.name [] (All-nil (IsBelow o.name)) p
 set_rises o (q ∷ qs) p d =
-    go (is_lt (slice_cmp nat_cmp q.name o.name)) refl (set_rises o qs (pairs_after q.name (names qs) p) (all_rest (λ n. n ≢ o.name) q.name (names qs) d))
+    go (is_lt (slice_cmp nat_cmp q.name o.name)) refl (set_rises o qs (pairs_after q.name (names qs) p) (All-tail (λ n. n ≢ o.name) q.name (names qs) d))
   where
     go : (b : Bool) → is_lt (slice_cmp nat_cmp q.name o.name) ≡ b → AllPairs IsBelow (names (set_in o qs)) → AllPairs IsBelow (names (cond b (q ∷ set_in o qs) (o ∷ q ∷ qs)))
-    go true e ih = AllPairs-cons IsBelow q.name (names (set_in o qs)) (set_all (IsBelow q.name) o qs (lt_less (slice_cmp nat_cmp q.name o.name) e) (all_after q.name (names qs) p)) ih
+    go true e ih = AllPairs-cons IsBelow q.name (names (set_in o qs)) (set_all (IsBelow q.name) o qs (is_less (slice_cmp nat_cmp q.name o.name) e) (all_after q.name (names qs) p)) ih
     go false e ih = AllPairs-cons IsBelow o.name (names (q ∷ qs)) (All-cons (IsBelow o.name) q.name (names qs) first later) p
       where
         first : IsBelow o.name q.name

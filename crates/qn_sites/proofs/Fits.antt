@@ -1,11 +1,8 @@
 -- Charges of values and of entries: they are of the group, and their parts are within bounds.
-use Rattle.std.proofs.Common.{◌≡◌, ◌≢◌, ℕ, ℤ, ◌≤◌, ◌<◌, ◌^◌, ◌*◌, ◌/◌, ◌%◌, ◌+◌, List, length, get_or, arith, subst, sym}
-use Rattle.std.specs.List.{All}
+use Rattle.std.proofs.Common.{ℤ, ◌^◌, ◌+◌, List, arith}
 use Rattle.qn_charge.specs.declared.factor.Factor.{Factor}
-use Rattle.qn_charge.specs.Charges.{IsGroup, sum_charge, neg_charge, IsCanonical, IsWithin}
+use Rattle.qn_charge.specs.Charges.{sum_charge, neg_charge, IsWithin}
 use Rattle.qn_charge.specs.Laws.{within_more, within_neg, within_sum}
-use Rattle.qn_index.specs.Legs.{LegValue, SectorValue, IsOf, IsLegOf, charge_at, sector_at, sector_of, no_sector, total}
-use Rattle.qn_sites.specs.Operators.{IsSiteLeg}
 
 -- the negative of a leg's charge fits
 pub neg_fits : (fs : List Factor) (a : List ℤ) → IsWithin 1000000000 fs a → IsWithin (2 ^ 62) fs (neg_charge fs a)
@@ -16,7 +13,3 @@ pub difference_fits : (fs : List Factor) (a b : List ℤ) → IsWithin 100000000
 difference_fits fs a b v w =
     within_more (1000000000 + 1000000000) (2 ^ 62) fs (sum_charge fs a (neg_charge fs b)) (omega arith)
     (within_sum 1000000000 1000000000 fs a (neg_charge fs b) v (within_neg 1000000000 fs b w))
-
--- a sector's charge is of the leg's group
-pub sector_is_of : (fs : List Factor) (l : LegValue) (i : ℕ) → IsLegOf fs l → i < length l.sectors → IsOf fs (sector_at l.sectors i)
-sector_is_of fs l i h lt = h i no_sector lt

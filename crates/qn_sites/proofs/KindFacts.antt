@@ -1,26 +1,21 @@
 -- What holds of the kinds that are built in.
-use Rattle.std.proofs.Common.{Contains, ◌≡◌, ◌≢◌, ℕ, ℤ, pos, negsuc, zero, suc, ◌+◌, ◌-◌, ◌*◌, ◌/◌, ◌%◌, ◌==◌, ◌&&◌, ◌≤◌, ◌<◌, ◌^◌, ◌⊎◌, inl, inr, List, [], ◌∷◌, ◌++◌, length, get_or, map, take, arith, refl, ap, ap₂, ◌∙◌, sym, subst, Bool, true, false, cond}
-use Rattle.std.specs.Prelude.{Err, IfErr, Ok, Result, nat_lt}
+use Rattle.std.proofs.Common.{Contains, ◌≡◌, ◌≢◌, ℕ, ℤ, pos, negsuc, zero, suc, ◌+◌, ◌-◌, ◌*◌, ◌/◌, ◌%◌, ◌==◌, ◌&&◌, ◌≤◌, ◌<◌, ◌⊎◌, inl, inr, List, [], ◌∷◌, ◌++◌, length, get_or, map, take, arith, refl, ap, ap₂, ◌∙◌, sym, subst, Bool, true, false, cond}
+use Rattle.std.specs.Prelude.{nat_lt}
 use Rattle.std.specs.Cmp.{unsigned_Decides}
 use Rattle.std.proofs.lemmas.Bool.Decides.{nat_tests}
 use Rattle.std.specs.Cmp.Lexicographic.{nat_list_cmp_total}
-use Rattle.std.specs.List.{All, AllPairs, range_with_len}
+use Rattle.std.specs.List.{All, AllPairs}
 use Rattle.std.proofs.lemmas.List.Elements.{All-nil, All-cons, All-map}
 use Rattle.std.proofs.lemmas.List.{get_or-map, length-map, map-append, map_more}
 use Rattle.std.proofs.lemmas.List.FromFn.{get_or-map-range_with_len, length-map-range_with_len}
 use Rattle.std.proofs.lemmas.Simd.{map-map}
 use Rattle.std.proofs.lemmas.List.Kept.{AllPairs-cons}
-use Rattle.std.proofs.lemmas.Bool.{and_parts, false≢true}
+use Rattle.std.proofs.lemmas.Bool.{false≢true}
 use Rattle.qn_gauss.specs.Gaussian.{Gaussian, zero_g}
 use Rattle.qn_charge.specs.declared.factor.Factor.{Factor}
 use Rattle.qn_charge.specs.Charges.{IsCanonical, IsWithin, sum_charge, neg_charge}
-use Rattle.qn_charge.specs.Firsts.{OutOfRange}
 use Rattle.qn_charge.specs.Laws.{length_canonical, none_out_of_range}
-use Rattle.qn_index.specs.declared.leg.LegFault.{LegFault}
-use Rattle.qn_index.specs.declared.leg.LegFault.TheVariants.{ChargeRange, DimRange, NoSector, TooManySectors}
-use Rattle.qn_index.specs.Legs.{SectorValue, before, charge_at, no_sector, sector_at, sector_of, total}
-use Rattle.qn_index.specs.Refusals.{IsFirstLegFault}
-use Rattle.qn_index.proofs.Sectors.{before_le}
+use Rattle.qn_index.specs.Legs.{SectorValue, charge_at, no_sector, sector_at, sector_of, total}
 use Rattle.qn_index.proofs.Shapes.{below_product}
 use Rattle.qn_sites.specs.declared.fault.SiteFault.{SiteFault}
 use Rattle.qn_sites.specs.declared.fault.SiteFault.TheVariants.{SiteKind, OpCharge, Memory}
@@ -29,15 +24,10 @@ use Rattle.qn_sites.specs.Refusals.{BadHead, IsClean, IsOwnFault, no_op}
 use Rattle.qn_sites.specs.Sites.{AreAscending, GivenOp, identity_name}
 use Rattle.qn_sites.specs.Kinds.{AllCarry, EntryRow, IsKind, IsKindOp, KindRow, OpRow, electron, fermion, filled, kind_leg, kind_op, kinds, spin_half, value_at}
 use Rattle.qn_sites.proofs.Ascents.{IsBelow, from_pairs}
-
-all2 : {X : Type 0} (P : X → Type 0) (a b : X) → P a → P b → All P (a ∷ b ∷ [])
-all2 P a b p q = All-cons P a (b ∷ []) p (All-cons P b [] q (All-nil P))
-
-all3 : {X : Type 0} (P : X → Type 0) (a b c : X) → P a → P b → P c → All P (a ∷ b ∷ c ∷ [])
-all3 P a b c p q r = All-cons P a (b ∷ c ∷ []) p (all2 P b c q r)
+use Rattle.qn_facts.proofs.Lists.{all_two, all_three, unmapped}
 
 all4 : {X : Type 0} (P : X → Type 0) (a b c d : X) → P a → P b → P c → P d → All P (a ∷ b ∷ c ∷ d ∷ [])
-all4 P a b c d p q r s = All-cons P a (b ∷ c ∷ d ∷ []) p (all3 P b c d q r s)
+all4 P a b c d p q r s = All-cons P a (b ∷ c ∷ d ∷ []) p (all_three P b c d q r s)
 
 all6 : {X : Type 0} (P : X → Type 0) (a b c d e f : X) → P a → P b → P c → P d → P e → P f → All P (a ∷ b ∷ c ∷ d ∷ e ∷ f ∷ [])
 all6 P a b c d e f p q r s t u = All-cons P a (b ∷ c ∷ d ∷ e ∷ f ∷ []) p (All-cons P b (c ∷ d ∷ e ∷ f ∷ []) q (all4 P c d e f r s t u))
@@ -73,10 +63,10 @@ spin_half_is =
       group = (tt, tt);
       some = omega arith;
       few = omega arith;
-      charges = all2 (IsCharge spin_half.factors) (pos 1 ∷ []) (negsuc 0 ∷ []) ((tt, refl), (omega arith, tt)) ((tt, refl), (omega arith, tt));
+      charges = all_two (IsCharge spin_half.factors) (pos 1 ∷ []) (negsuc 0 ∷ []) ((tt, refl), (omega arith, tt)) ((tt, refl), (omega arith, tt));
       count = omega arith;
       ascending = from_pairs (map (λ (o : OpRow). o.name) spin_half.ops) (risen (map (λ (o : OpRow). o.name) spin_half.ops) (refl, (refl, tt)));
-      ops = all3 (IsKindOp spin_half) _ _ _
+      ops = all_three (IsKindOp spin_half) _ _ _
           (op_is spin_half _ _ _ _ refl (tt, refl) (omega arith, tt) (refl, tt))
           (op_is spin_half _ _ _ _ refl (tt, refl) (omega arith, tt) (refl, tt))
           (op_is spin_half _ _ _ _ refl (tt, refl) (omega arith, tt) (refl, (refl, tt)));
@@ -88,10 +78,10 @@ fermion_is =
       group = (tt, tt);
       some = omega arith;
       few = omega arith;
-      charges = all2 (IsCharge fermion.factors) (pos 0 ∷ []) (pos 1 ∷ []) ((tt, refl), (omega arith, tt)) ((tt, refl), (omega arith, tt));
+      charges = all_two (IsCharge fermion.factors) (pos 0 ∷ []) (pos 1 ∷ []) ((tt, refl), (omega arith, tt)) ((tt, refl), (omega arith, tt));
       count = omega arith;
       ascending = from_pairs (map (λ (o : OpRow). o.name) fermion.ops) (risen (map (λ (o : OpRow). o.name) fermion.ops) (refl, (refl, tt)));
-      ops = all3 (IsKindOp fermion) _ _ _
+      ops = all_three (IsKindOp fermion) _ _ _
           (op_is fermion _ _ _ _ refl (tt, refl) (omega arith, tt) (refl, tt))
           (op_is fermion _ _ _ _ refl (tt, refl) (omega arith, tt) (refl, tt))
           (op_is fermion _ _ _ _ refl (tt, refl) (omega arith, tt) (refl, tt));
@@ -160,9 +150,6 @@ one_kind k m c d e = by (which k c) (which m d)
 
 -- ---- the lists of a kind as the program holds them
 
-pub unmapped : {X Y : Type 0} (P : Y → Type 0) (f : X → Y) (xs : List X) → All P (map f xs) → All (λ x. P (f x)) xs
-unmapped P f xs a k d lt = subst P (get_or-map f xs k d (f d) lt) (a k (f d) (subst (λ n. k < n) (sym (length-map xs f)) lt))
-
 pub charge_lengths : (k : KindRow) → IsKind k → All (λ q. length q ≡ length k.factors) k.charges
 charge_lengths k h i d lt = length_canonical k.factors (get_or k.charges i d) (h.charges i d lt).0
 
@@ -197,28 +184,6 @@ sector_single (q ∷ qs) (suc v) lt =
 charge_single : (qs : List (List ℤ)) (v : ℕ) → v < length qs → charge_at (map single qs) v ≡ get_or qs v []
 charge_single qs v lt =
     ap (λ i. (sector_at (map single qs) i).charge) (sector_single qs v lt) ∙ ap (λ (s : SectorValue). s.charge) (single_at qs v lt)
-
-pub no_leg_fault : (k : KindRow) (e : LegFault) → IsKind k → IsFirstLegFault k.factors (kind_leg k).sectors e → ⊥
-no_leg_fault k (ChargeRange i) h f =
-    let bad = f.here in
-    let lt : i < length k.charges = subst (λ n. i < n) (length-map k.charges single) bad.0 in
-    let charge = h.charges i [] lt in
-    none_out_of_range 1000000000 k.factors (get_or k.charges i []) charge.0 charge.1 bad.1.0
-    (subst (λ (s : SectorValue). OutOfRange 1000000000 k.factors s.charge bad.1.0) (single_at k.charges i lt) bad.1.1)
-no_leg_fault k (DimRange i) h f = by f.1.here.1
-  where
-    lt : i < length k.charges
-    lt = subst (λ n. i < n) (length-map k.charges single) f.1.here.0
-
-    dim : (sector_at (kind_leg k).sectors i).dim ≡ 1
-    dim = ap (λ (s : SectorValue). s.dim) (single_at k.charges i lt)
-
-    by : ((sector_at (kind_leg k).sectors i).dim ≡ 0) ⊎ (65536 < (sector_at (kind_leg k).sectors i).dim) ⊎ (2 ^ 20 < before (kind_leg k).sectors (i + 1)) → ⊥
-    by (inl e) = absurd (omega (arith, dim, e))
-    by (inr (inl l)) = absurd (omega (arith, dim, l))
-    by (inr (inr l)) = let few = h.few in absurd (omega (arith, before_le (kind_leg k).sectors (i + 1), total_single k.charges))
-no_leg_fault k NoSector h f = let e = f.2 in absurd (omega (arith, h.some, length-map k.charges single))
-no_leg_fault k TooManySectors h f = let l = f.2 in absurd (omega (arith, h.few, length-map k.charges single))
 
 -- an entry other than 0 carries the charge
 value_carries : (fs : List Factor) (qs : List (List ℤ)) (q : List ℤ) (es : List EntryRow) (r c : ℕ) → r < length qs → c < length qs → AllCarry fs qs q es → value_at es r c ≢ zero_g →
@@ -296,8 +261,3 @@ pub made_more : {X Y Z : Type 0} (f : X → Z) (h : Y → Z) (xs new : List X) (
     map f new ≡ map h (take (i + 1) ys)
 made_more f h xs new ys i x y old e lt same =
     ap (map f) e ∙ (map-append f xs (x ∷ []) ∙ (ap₂ (λ zs z. zs ++ z ∷ []) old same ∙ sym (map_more h ys i y lt)))
-
--- a refusal that is another
-pub other_err : {T E : Type 0} (P Q : E → Type 0) (r : Result T E) → ((e : E) → P e → Q e) → IfErr r P → IfErr r Q
-other_err P Q (Ok x) f h = h
-other_err P Q (Err e) f h = f e h

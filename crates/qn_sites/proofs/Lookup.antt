@@ -1,45 +1,22 @@
 -- Things found by their names, where the names ascend.
-use Rattle.std.proofs.Common.{◌≡◌, ◌≢◌, ℕ, zero, suc, ◌≤◌, ◌<◌, List, [], ◌∷◌, length, get_or, map, arith, refl, ap, ◌∙◌, sym, subst, ◌⊎◌, inl, inr, ⊎_elim}
+use Rattle.std.proofs.Common.{◌≡◌, ◌≢◌, ℕ, ◌≤◌, ◌<◌, List, [], length, get_or, arith, ◌∙◌, sym, subst, ◌⊎◌, inl, inr, ⊎_elim}
 use Rattle.std.specs.Cmp.Lexicographic.{slice_cmp}
-use Rattle.std.specs.Ordering.{nat_cmp, ordering_index, ordering_then}
+use Rattle.std.specs.Ordering.{nat_cmp, ordering_index}
 use Rattle.std.specs.List.Sorted.{IsSearchInRange, IsBinarySearchResult, IsNonDecreasingBy}
 use Rattle.std.specs.Prelude.{MatchResult, Result, Ok, Err}
-use Rattle.std.specs.declared.cmp.Ordering.{Ordering}
 use Rattle.std.specs.declared.cmp.Ordering.TheVariants.{Less, Equal, Greater}
-use Rattle.std.proofs.lemmas.Cmp.{nat_list_cmp_total, tied_itself, alike_right, ranked}
+use Rattle.std.proofs.lemmas.Cmp.{nat_list_cmp_total, tied_itself, alike_right}
 use Rattle.std.proofs.lemmas.Bool.{cases_lt}
 use Rattle.std.proofs.lemmas.List.{get_or_default, get_or-map, length-map}
 use Rattle.qn_sites.specs.Operators.{OpValue}
 use Rattle.qn_sites.specs.Sites.{AreAscending, names, name_at, no_operator}
+use Rattle.qn_facts.proofs.Orderings.{index_rises, same_list}
 
 less_not_equal : Less ≡ Equal → ⊥
 less_not_equal e = cc
 
 greater_not_equal : Greater ≡ Equal → ⊥
 greater_not_equal e = cc
-
-index_rises : (o p : Ordering) → (p ≡ Less → o ≡ Less) → (p ≡ Equal → o ≡ Less) → ordering_index o ≤ ordering_index p
-index_rises o Less l e = subst (λ k. ordering_index k ≤ 0) (sym (l refl)) (omega arith)
-index_rises o Equal l e = subst (λ k. ordering_index k ≤ 1) (sym (e refl)) (omega arith)
-index_rises Less Greater l e = omega arith
-index_rises Equal Greater l e = omega arith
-index_rises Greater Greater l e = omega arith
-
-both_equal : (o p : Ordering) → ordering_then o p ≡ Equal → (o ≡ Equal) × (p ≡ Equal)
-both_equal Less p e = absurd (cc e)
-both_equal Equal p e = (refl, e)
-both_equal Greater p e = absurd (cc e)
-
--- names that tie are the same
-pub same_key : (xs ys : List ℕ) → slice_cmp nat_cmp xs ys ≡ Equal → xs ≡ ys
-same_key [] [] e = refl
-same_key [] (y ∷ ys) e = absurd (cc e)
-same_key (x ∷ xs) [] e = absurd (cc e)
-same_key (x ∷ xs) (y ∷ ys) e =
-    let b = both_equal (nat_cmp x y) (slice_cmp nat_cmp xs ys) e in
-    let first : x ≡ y = ranked x y Equal (sym b.0) in
-    let rest : xs ≡ ys = same_key xs ys b.1 in
-    cc
 
 module _ {X : Type 0} (key : X → List ℕ) (nothing : X) where
   -- the keys ascend
@@ -67,7 +44,7 @@ module _ {X : Type 0} (key : X → List ℕ) (nothing : X) where
   -- what a binary search for a key answers
   pub looked_up : (xs : List X) (t : List ℕ) (r : Result ℕ ℕ) → KeysAscend xs → IsSearchInRange r (length xs) → IsBinarySearchResult (λ x. slice_cmp nat_cmp (key x) t) xs r →
       MatchResult r (λ i. (i < length xs) × (key (get_or xs i nothing) ≡ t)) (λ i. (j : ℕ) → j < length xs → key (get_or xs j nothing) ≢ t)
-  looked_up xs t (Ok i) a range found = (range, same_key (key (get_or xs i nothing)) t (found nothing))
+  looked_up xs t (Ok i) a range found = (range, same_list (key (get_or xs i nothing)) t (found nothing))
   looked_up xs t (Err i) a range found = λ j lt e.
       let parted = found (keys_rise xs t a) in
       let tied : slice_cmp nat_cmp (key (get_or xs j nothing)) t ≡ Equal = subst (λ u. slice_cmp nat_cmp u t ≡ Equal) (sym e) (tied_itself nat_list_cmp_total t) in

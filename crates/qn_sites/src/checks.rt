@@ -1,3 +1,5 @@
+//! What is wrong with a given operator, first in order.
+
 ghost use Rattle.std.specs.Prelude.{◌≡◌, ◌<◌, ◌*◌, ◌↔◌, ℕ, length, IsTrue, MatchOption};
 ghost use Rattle.qn_charge.specs.Charges.{IsCanonical, IsWithin};
 ghost use Rattle.qn_charge.specs.Firsts.{IsFirst, HasNone};
@@ -68,7 +70,8 @@ fn first_off_charge<const K: usize>(
 ) -> Option<usize>
     requires leg { IsSiteLeg group.now leg.now }
     requires full { length entries.now ≡ total leg.now.sectors * total leg.now.sectors }
-    ensures { MatchOption result (HasNone (BadEntry group.now leg.now charge.now entries.now)) (IsFirst (BadEntry group.now leg.now charge.now entries.now)) }
+    ensures { MatchOption result (HasNone (BadEntry group.now leg.now charge.now entries.now)) (
+        IsFirst (BadEntry group.now leg.now charge.now entries.now)) }
 {
     for (k, entry) in entries.iter().enumerate() {
         if is_off_charge(group, leg, charge, k, entry) {

@@ -1,3 +1,5 @@
+//! Why a site is refused.
+
 use std::alloc::{AllocError, AllocFailed};
 use thiserror::Error;
 

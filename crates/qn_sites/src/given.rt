@@ -1,3 +1,5 @@
+//! A site of one's own, from its leg and its operators.
+
 ghost use Rattle.std.specs.Prelude.{◌≡◌, ◌≢◌, ◌<◌, ◌≤◌, ◌*◌, ◌==◌, ◌/◌, ◌%◌, ℕ, length, map, slice_index_or, true, false, IfOk, IfErr, if◌then◌else◌};
 ghost use Rattle.std.specs.Cmp.Lexicographic.{slice_cmp};
 ghost use Rattle.std.specs.List.{All};
@@ -28,10 +30,15 @@ fn tested<const K: usize>(
 ) -> Result<Vec<OpTable<K>>, SiteFault>
     requires leg { IsSiteLeg group.now leg.now }
     requires full { All (λ o. length o.2.items ≡ total leg.now.sectors * total leg.now.sectors) ops.items }
-    ensures ok { IfOk result (λ v. v.items ≡ map (op_on group.now leg.now) (map (λ o. record { name = o.0; charge = o.1; entries = o.2.items }) ops.entry.items)) }
+    ensures ok { IfOk result (λ v.
+        v.items ≡
+        map (op_on group.now leg.now) (
+        map (λ o. record { name = o.0; charge = o.1; entries = o.2.items }) ops.entry.items)) }
     ensures on { IfOk result (λ v. All (IsOn group.now leg.now) v.items) }
     ensures named { IfOk result (λ v. All (λ n. n ≢ identity_name) (names v.items)) }
-    ensures err { IfErr result (IsOwnFault group.now leg.now (map (λ o. record { name = o.0; charge = o.1; entries = o.2.items }) ops.entry.items)) }
+    ensures err { IfErr result (
+        IsOwnFault group.now leg.now (
+        map (λ o. record { name = o.0; charge = o.1; entries = o.2.items }) ops.entry.items)) }
 {
     group.known();
     let mut tables = Vec::new(alloc);
@@ -93,7 +100,8 @@ fn identity<const K: usize>(
 fn count_before<const K: usize>(ops: &[OpTable<K>]) -> usize
     ensures within { result ≤ length ops.now }
     ensures below { (k : ℕ) (d : _) → k < result → is_lt (slice_cmp nat_cmp (slice_index_or ops.now k d).name identity_name) ≡ true }
-    ensures above { (d : _) → result < length ops.now → is_lt (slice_cmp nat_cmp (slice_index_or ops.now result d).name identity_name) ≡ false }
+    ensures above { (d : _) → result < length ops.now →
+        is_lt (slice_cmp nat_cmp (slice_index_or ops.now result d).name identity_name) ≡ false }
 {
     for i in 0..ops.len() {
         let op = &ops[i];
@@ -132,8 +140,13 @@ pub fn own<const K: usize>(
     requires few { length ops.items ≤ 64 }
     requires names { AreAscending (map (λ o. o.0) ops.items) }
     requires full { All (λ o. length o.2.items ≡ total leg.sectors * total leg.sectors) ops.items }
-    ensures ok { IfOk result (λ t. t ≡ site_with group.now leg.entry (map (λ o. record { name = o.0; charge = o.1; entries = o.2.items }) ops.entry.items)) }
-    ensures err { IfErr result (IsOwnFault group.now leg.entry (map (λ o. record { name = o.0; charge = o.1; entries = o.2.items }) ops.entry.items)) }
+    ensures ok { IfOk result (λ t.
+        t ≡
+        site_with group.now leg.entry (
+        map (λ o. record { name = o.0; charge = o.1; entries = o.2.items }) ops.entry.items)) }
+    ensures err { IfErr result (
+        IsOwnFault group.now leg.entry (
+        map (λ o. record { name = o.0; charge = o.1; entries = o.2.items }) ops.entry.items)) }
 {
     group.known();
     let tables = tested(alloc, group, &leg, ops)?;

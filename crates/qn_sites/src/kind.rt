@@ -1,3 +1,5 @@
+//! The site of a kind that is built in.
+
 ghost use Rattle.std.specs.Prelude.{◌≡◌, ◌==◌, ◌&&◌, ◌↔◌, ◌≤◌, ◌<◌, ◌*◌, ◌%◌, ◌/◌, ℕ, Contains, IfErr, IfOk, IsTrue, length, map, pos, unsigned_abs};
 ghost use Rattle.std.specs.List.{All};
 ghost use Rattle.qn_sites.specs.Kinds.{IsKind, KindRow, entry_of, filled, kind_leg, kind_op, kind_site, kinds, value_at};
@@ -122,7 +124,9 @@ fn operators<const K: usize>(
     requires arity { All (λ o. length o.charge.now ≡ K) kind.now.ops.now }
     requires some { 0 < dim }
     requires small { dim ≤ 64 }
-    ensures { IfOk result (λ v. map (λ o. record { name = o.0; charge = o.1; entries = o.2.items }) v.items ≡ map (λ o. kind_op dim (op_row o)) kind.now.ops.now) }
+    ensures { IfOk result (λ v.
+        map (λ o. record { name = o.0; charge = o.1; entries = o.2.items }) v.items ≡
+        map (λ o. kind_op dim (op_row o)) kind.now.ops.now) }
 {
     let ops = kind.ops;
     let mut list = Vec::with_capacity(alloc, ops.len())?;
@@ -161,7 +165,8 @@ fn known_kind(kind: &KindData)
     ensures charges { All (λ c. length c.now ≡ length kind.now.factors.now) kind.now.charges.now }
     ensures charges_of_ops { All (λ o. length o.charge.now ≡ length kind.now.factors.now) kind.now.ops.now }
     ensures sectors { map (λ c. record { charge = c.now; dim = 1 }) kind.now.charges.now ≡ (kind_leg (kind_row kind.now)).sectors }
-    ensures ops { map (λ o. kind_op (length kind.now.charges.now) (op_row o)) kind.now.ops.now ≡ map (kind_op (length (kind_row kind.now).charges)) (kind_row kind.now).ops }
+    ensures ops { map (λ o. kind_op (length kind.now.charges.now) (op_row o)) kind.now.ops.now ≡
+        map (kind_op (length (kind_row kind.now).charges)) (kind_row kind.now).ops }
 {}
 
 /// The site of a kind that is built in: `spin_half`, `fermion` or `electron`, each for its own group.

@@ -1,3 +1,5 @@
+//! The tables of the kinds that are built in, as data: sectors, operators and their entries.
+
 ghost use Rattle.std.specs.Prelude.{◌≡◌, ◌≢◌, map, MatchOption, Contains};
 ghost use Rattle.qn_sites.specs.Kinds.{KindRow, kinds};
 ghost use Rattle.qn_sites.specs.KindRows.{kind_row};
@@ -110,7 +112,8 @@ static ELECTRON: KindData = KindData {
 
 /// The kind of this name.
 pub(crate) fn find(name: &str) -> Option<&'static KindData>
-    ensures { MatchOption result ((k : KindRow) → Contains kinds k → k.name ≢ name.now) (λ k. Contains kinds (kind_row k.now) × ((kind_row k.now).name ≡ name.now)) }
+    ensures { MatchOption result ((k : KindRow) → Contains kinds k → k.name ≢ name.now) (λ k.
+        Contains kinds (kind_row k.now) × ((kind_row k.now).name ≡ name.now)) }
 {
     if name == SPIN_HALF.name {
         return Some(&SPIN_HALF);

@@ -1,4 +1,6 @@
 //! Sites with their legs and operators: the kinds that are built in, and sites of one's own.
+//!
+//! For operator sums and for documents. It hands on `SiteTable`, and its operators as rules.
 #![tactic(auto)]
 
 mod checks;

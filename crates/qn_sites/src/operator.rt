@@ -1,3 +1,5 @@
+//! The table of one operator: its charge and its entries.
+
 ghost use Rattle.std.specs.Prelude.{◌≡◌, ◌<◌, IfOk};
 ghost use Rattle.qn_index.specs.Legs.{total};
 ghost use Rattle.qn_sites.specs.Operators.{IsOperator, element};
@@ -28,7 +30,8 @@ impl<const K: usize> Model for OpTable<K> {
 
     ghost view = { λ o. record { group = o.group; leg = o.leg; name = o.name; charge = o.charge; entries = o.entries.items } };
 
-    ghost invariant = { λ o. IsOperator (record { group = o.group; leg = o.leg; name = o.name; charge = o.charge; entries = o.entries.items }) };
+    ghost invariant = { λ o. IsOperator (
+        record { group = o.group; leg = o.leg; name = o.name; charge = o.charge; entries = o.entries.items }) };
 }
 
 impl<const K: usize> OpTable<K> {
@@ -41,7 +44,8 @@ impl<const K: usize> OpTable<K> {
         entries: Vec<Gauss>,
     ) -> OpTable<K>
         requires { IsOperator (record { group = group; leg = leg; name = name; charge = charge; entries = entries.items }) }
-        ensures { result ≡ record { group = group.entry; leg = leg.entry; name = name; charge = charge.entry; entries = entries.items } }
+        ensures { result ≡
+            record { group = group.entry; leg = leg.entry; name = name; charge = charge.entry; entries = entries.items } }
     {
         OpTable {
             group,

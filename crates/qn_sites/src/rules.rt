@@ -1,3 +1,5 @@
+//! Operators as rules: the entries of the tensors of an automaton.
+
 ghost use Rattle.std.specs.Prelude.{◌≡◌, List, ℕ, IfOk};
 ghost use Rattle.std.specs.List.{All};
 ghost use Rattle.qn_gauss.specs.Gaussian.{Gaussian, zero_g};
@@ -44,14 +46,17 @@ impl<const K: usize> OpTable<K> {
     fn known_as_rule(&self)
         ensures charges { All (IsLegOf self.now.group) (op_legs self.now.leg) }
         ensures flux { IsFlux self.now.group self.now.charge }
-        ensures conserves { (xs : List ℕ) (z : Gaussian) → IsOffFlux self.now.group (op_legs self.now.leg) self.now.charge xs → z ≡ element self.now (row_of xs) (column_of xs) → z ≡ zero_g }
+        ensures conserves { (xs : List ℕ) (z : Gaussian) → IsOffFlux self.now.group (op_legs self.now.leg) self.now.charge xs →
+            z ≡ element self.now (row_of xs) (column_of xs) → z ≡ zero_g }
     {
         self.known();
     }
 
     /// The operator as a rule, with the row's leg Out and the column's leg In.
     pub fn rule(self, alloc: Global) -> Result<Rule<K, OpTable<K>>, AllocError>
-        ensures { IfOk result (λ r. r ≡ record { group = self.entry.group; legs = op_legs self.entry.leg; flux = self.entry.charge; function = self.entry }) }
+        ensures { IfOk result (λ r.
+            r ≡
+            record { group = self.entry.group; legs = op_legs self.entry.leg; flux = self.entry.charge; function = self.entry }) }
     {
         self.known_as_rule();
         let legs = op_legs(alloc, self.leg())?;

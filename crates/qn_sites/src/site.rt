@@ -1,3 +1,5 @@
+//! A site: its group, its leg and its operators by name.
+
 ghost use Rattle.std.specs.Prelude.{◌≡◌, ◌≢◌, ◌<◌, ℕ, length, slice_index_or, IfOk, MatchOption};
 ghost use Rattle.std.specs.Cmp.Lexicographic.{slice_cmp};
 ghost use Rattle.std.specs.Ordering.{nat_cmp};
@@ -73,7 +75,8 @@ impl<const K: usize> SiteTable<K> {
 
     /// Where the operator of this name stands. Takes no memory.
     pub fn place_of(&self, name: &Name) -> Option<usize>
-        ensures { MatchOption result ((i : ℕ) → i < length self.now.ops → name_at self.now.ops i ≢ name.now) (λ i. (i < length self.now.ops) × (name_at self.now.ops i ≡ name.now)) }
+        ensures { MatchOption result ((i : ℕ) → i < length self.now.ops → name_at self.now.ops i ≢ name.now) (λ i.
+            (i < length self.now.ops) × (name_at self.now.ops i ≡ name.now)) }
     {
         self.known();
         find(self.ops(), name)
@@ -106,7 +109,8 @@ fn copy_ops<const K: usize>(
 /// Where the operator of this name stands.
 fn find<const K: usize>(ops: &[OpTable<K>], name: &Name) -> Option<usize>
     requires { AreAscending (names ops.now) }
-    ensures { MatchOption result ((i : ℕ) → i < length ops.now → name_at ops.now i ≢ name.now) (λ i. (i < length ops.now) × (name_at ops.now i ≡ name.now)) }
+    ensures { MatchOption result ((i : ℕ) → i < length ops.now → name_at ops.now i ≢ name.now) (λ i.
+        (i < length ops.now) × (name_at ops.now i ≡ name.now)) }
 {
     let found = ops.binary_search_by(
         |op: &OpTable<K>| -> Ordering

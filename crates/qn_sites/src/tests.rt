@@ -1,3 +1,5 @@
+//! Kinds, entries of their operators, and own sites at fault.
+
 ghost use Rattle.std.specs.Prelude.{◌≡◌, ◌≤◌, IfOk};
 ghost use Rattle.qn_index.specs.Legs.{total};
 ghost use Rattle.qn_sites.specs.Operators.{IsSiteLeg};

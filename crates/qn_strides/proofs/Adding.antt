@@ -1,21 +1,13 @@
 -- Sums that are added up one summand at a time, with their sums of magnitudes.
-use Rattle.std.proofs.Common.{◌≡◌, ◌≤◌, ◌<◌, ◌-◌, ℕ, zero, suc, ◌+◌, ◌*◌, ◌^◌, Bool, List, [], ◌∷◌, refl, sym, ◌∙◌, ap, subst, length, get_or, take, drop, add-one, zero-add, ◌⊎◌, inl, inr, eq-or-lt_of_le, arith}
+use Rattle.std.proofs.Common.{◌≡◌, ◌≤◌, ◌<◌, ◌-◌, ℕ, zero, suc, ◌+◌, ◌*◌, ◌^◌, Bool, List, ◌∷◌, refl, sym, ◌∙◌, ap, subst, length, add-one, ◌⊎◌, inl, inr, eq-or-lt_of_le, arith}
 use Rattle.std.specs.List.{All}
-use Rattle.std.proofs.lemmas.List.{take_all}
-use Rattle.std.proofs.Math.Nat.{mul-le-mul_left, mul-le-mul_right}
 use Rattle.qn_gauss.specs.Gaussian.{Gaussian, zero_g, add_g, mag, limit, signed}
 use Rattle.qn_gauss.proofs.Ring.{add_assoc, add_zero}
 use Rattle.qn_value.specs.Networks.{sum_below}
 use Rattle.qn_value.specs.Magnitudes.{total_below}
 use Rattle.qn_value.proofs.NetLaws.{signed-zero}
-use Rattle.qn_value.proofs.RowsLemmas.{zero_add, signed-add}
+use Rattle.qn_value.proofs.RowsLemmas.{signed-add}
 use Rattle.qn_strides.specs.Strides.{SummedValue, IsSummed, sum_along, total_along}
-
-pub product_bound : (a b m k : ℕ) → a ≤ m → b ≤ k → a * b ≤ m * k
-product_bound a b m k h l =
-    let p : a * b ≤ m * b = mul-le-mul_right b h in
-    let q : m * b ≤ m * k = mul-le-mul_left m l in
-    omega (arith, p, q)
 
 -- the first n summands are added to a sum
 pub record IsAdded (g : ℕ → Gaussian) (m : ℕ → ℕ) (minus : Bool) (sum : Gaussian) (size n : ℕ) (total : Gaussian) (bound : ℕ) : Type 0 where
@@ -69,9 +61,6 @@ mag_zero = refl
 
 pub axes_rest : (axis : SummedValue) (rest all : List SummedValue) → all ≡ axis ∷ rest → All IsSummed all → All IsSummed rest
 axes_rest axis rest all e h k d l = subst (λ xs. All IsSummed xs) e h (suc k) d (omega arith)
-
-pub axes_first : (axis : SummedValue) (rest all : List SummedValue) → all ≡ axis ∷ rest → All IsSummed all → IsSummed axis
-axes_first axis rest all e h = subst (λ xs. All IsSummed xs) e h 0 axis (omega arith)
 
 pub room_rest : (axis : SummedValue) (rest all : List SummedValue) (start place : ℕ) → all ≡ axis ∷ rest → start + length all * 2 ^ 40 ≤ 2 ^ 60 → place ≤ start + 2 ^ 39 → place + length rest * 2 ^ 40 ≤ 2 ^ 60
 room_rest axis rest all start place e h l = let n : length all ≡ length (axis ∷ rest) = ap (λ (xs : List SummedValue). length xs) e in omega (arith, h, l, n)

@@ -1,7 +1,7 @@
 -- Word and goal of a contraction whose legs are coupled, by the places of the legs.
-use Rattle.std.proofs.Common.{◌≡◌, ◌≢◌, ◌≤◌, ◌<◌, ℕ, zero, suc, ◌+◌, ◌==◌, ℤ, pos, negsuc, Bool, true, false, not, ◌||◌, ◌&&◌, cond, List, [], ◌∷◌, ◌++◌, refl, sym, ◌∙◌, ap, ap₂, subst, map, filter, length, ◌⊎◌, inl, inr, eqb-true, eq-eqb, nat_lt, zero-add, arith, int_lt}
+use Rattle.std.proofs.Common.{◌≡◌, ◌≢◌, ◌≤◌, ◌<◌, ℕ, zero, suc, ◌+◌, ◌==◌, ℤ, pos, negsuc, Bool, true, false, not, ◌||◌, ◌&&◌, cond, List, [], ◌∷◌, ◌++◌, refl, sym, ◌∙◌, ap, ap₂, subst, map, filter, length, ◌⊎◌, inl, inr, eqb-true, eq-eqb, nat_lt, zero-add, arith}
 use mathlib.Core.Path.{fun_ext}
-use Rattle.std.specs.List.{All, range_with_len}
+use Rattle.std.specs.List.{All}
 use Rattle.std.proofs.lemmas.Bool.{or_cases, or_left, or_right, false≢true}
 use Rattle.std.proofs.lemmas.Bool.Decides.{nat_tests}
 use Rattle.std.proofs.lemmas.List.{map-append}
@@ -12,14 +12,13 @@ use Rattle.qn_sign.specs.Positions.{positions, IsOrder}
 use Rattle.qn_sign.proofs.Parity.{perm-refl, perm-sym}
 use Rattle.qn_sign.proofs.Order.{is_in-perm, distinct-perm}
 use Rattle.qn_sign.proofs.Members.{perm_pick}
-use Rattle.qn_sign.proofs.Positions.{nat_test, orders_are_permutations}
+use Rattle.qn_sign.proofs.Positions.{nat_test, orders_are_permutations, is_in-positions, within_positions}
 use Rattle.qn_index.specs.declared.leg.Dir.{Dir}
 use Rattle.qn_index.specs.declared.leg.Dir.TheVariants.{Out, In}
 use Rattle.qn_index.specs.Legs.{LegValue, total}
 use Rattle.qn_value.specs.Networks.{End, Bond, same_end, pairs_of}
-use Rattle.qn_value.specs.Labels.{is_inward, is_positive, bonds_from, place_bond, in_label_order, bonds_of, open_end, opens_of, IsWellLabelled, SuitsAll, IsUniform}
+use Rattle.qn_value.specs.Labels.{is_inward, is_positive, bonds_from, bonds_of, open_end, opens_of, IsWellLabelled, SuitsAll, IsUniform}
 use Rattle.qn_value.specs.Local.{places_of, is_coupled, couple_number, label_at, IsCouple, IsCoupling}
-use Rattle.qn_value.proofs.NetLaws.{end_test}
 use Rattle.qn_value.proofs.Sums.{perm-map}
 use Rattle.qn_value.proofs.CoupleLemmas.{couple_at, stands_in, couple_passes, one_couple, open_before, open_step, open_grows}
 use Rattle.qn_value.proofs.CoupledLemmas.{leg_at, slot_at, well_labelled}
@@ -27,35 +26,15 @@ use Rattle.qn_strides.specs.Strides.{in_place, out_place, goal_couples, open_pla
 use Rattle.qn_value.proofs.CoupledLemmas.{to_range}
 pub use Rattle.qn_value.proofs.CoupledLemmas.{coupled_label}
 pub use Rattle.qn_value.proofs.CoupledLemmas.{open_label}
-use Rattle.qn_value.proofs.LabelLemmas.{perm_place}
 use Rattle.qn_value.proofs.LabelLemmas.{perm_order}
 use Rattle.qn_value.proofs.CoupleLemmas.{not_here}
+use Rattle.qn_facts.proofs.Lists.{range_last}
+pub use Rattle.qn_sign.proofs.Positions.{within_positions as of_positions}
 
 -- ---- lists of numbers
 
-pub range_last : (a n : ℕ) → range_with_len a (suc n) ≡ range_with_len a n ++ (a + n) ∷ []
-range_last a zero = ap (λ k. k ∷ []) (omega arith)
-range_last a (suc n) = ap (λ xs. a ∷ xs) (range_last (a + 1) n ∙ ap (λ k. range_with_len (a + 1) n ++ k ∷ []) (omega arith))
-
-pub in_positions : (a n x : ℕ) → a ≤ x → x < a + n → is_in ◌==◌ x (range_with_len a n) ≡ true
-in_positions a zero x h k = absurd (omega arith)
-in_positions a (suc n) x h k = go (x == a) refl (λ l. in_positions (a + 1) n x l (omega arith))
-  where
-    go : (b : Bool) → (x == a) ≡ b → (a + 1 ≤ x → is_in ◌==◌ x (range_with_len (a + 1) n) ≡ true) → (b || is_in ◌==◌ x (range_with_len (a + 1) n)) ≡ true
-    go true e ih = refl
-    go false e ih = ih (grind (arith, nat_tests))
-
-pub of_positions : (a n x : ℕ) → is_in ◌==◌ x (range_with_len a n) ≡ true → (a ≤ x) × (x < a + n)
-of_positions a zero x h = absurd (false≢true h)
-of_positions a (suc n) x h = go (x == a) refl (of_positions (a + 1) n x) h
-  where
-    go : (b : Bool) → (x == a) ≡ b → (is_in ◌==◌ x (range_with_len (a + 1) n) ≡ true → (a + 1 ≤ x) × (x < a + 1 + n)) →
-        (b || is_in ◌==◌ x (range_with_len (a + 1) n)) ≡ true → (a ≤ x) × (x < a + suc n)
-    go true e ih k = let at : x ≡ a = eqb-true x a e in (omega arith, omega arith)
-    go false e ih k = let r : (a + 1 ≤ x) × (x < a + 1 + n) = ih k in (omega (arith, r.0), omega (arith, r.1))
-
 pub below_positions : (n x : ℕ) → is_in ◌==◌ x (positions n) ≡ true → x < n
-below_positions n x h = let r = of_positions 0 n x h in omega (arith, r.1)
+below_positions n x h = let r = within_positions 0 n x h in omega (arith, r.1)
 
 pub positions_apart : (n : ℕ) → IsDistinct ◌==◌ (positions n)
 positions_apart n = let o : IsOrder n (positions n) = (orders_are_permutations n (positions n)).0 (perm-refl (positions n)) in o.distinct
@@ -122,7 +101,7 @@ perm_goal ls cs good =
     (fun_ext (λ i. ap not (sym (is_in-perm ◌==◌ i (perm_couples ls cs)))))
     (perm_pick ◌==◌ nat_test (positions (length ls)) (goal_couples ls cs) (positions_apart (length ls))
     (distinct-perm ◌==◌ nat_test (perm_couples ls cs) good.distinct)
-    (λ i h. in_positions 0 (length ls) i (omega arith) (let l : i < length ls = coupled_within ls cs good i (is_in-perm ◌==◌ i (perm_couples ls cs) ∙ h) in omega (arith, l))))
+    (λ i h. is_in-positions 0 (length ls) i (omega arith) (let l : i < length ls = coupled_within ls cs good i (is_in-perm ◌==◌ i (perm_couples ls cs) ∙ h) in omega (arith, l))))
 
 opposite : (d f : Dir) → d ≢ f → is_inward f ≡ not (is_inward d)
 opposite Out Out n = absurd (n refl)

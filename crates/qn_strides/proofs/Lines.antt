@@ -7,7 +7,7 @@ use Rattle.std.proofs.lemmas.List.{map-append}
 use Rattle.std.proofs.lemmas.List.FromFn.{length-map-range_with_len, get_or-map-range_with_len}
 use Rattle.qn_sign.specs.Sign.{is_in, exchange_sign, is_odd, IsDistinct, Perm}
 use Rattle.qn_sign.specs.Positions.{positions, is_odd_at}
-use Rattle.qn_sign.proofs.Positions.{positions_stand_for_things}
+use Rattle.qn_sign.proofs.Positions.{positions_stand_for_things, is_in-positions}
 use Rattle.qn_charge.specs.declared.factor.Factor.{Factor}
 use Rattle.qn_charge.specs.Charges.{parity}
 use Rattle.qn_index.specs.Legs.{LegValue, SectorValue, total, sector_at}
@@ -20,17 +20,13 @@ use Rattle.qn_value.specs.Local.{no_leg, is_coupled, label_at, IsCouple, IsCoupl
 use Rattle.qn_value.proofs.NetLaws.{end_test}
 use Rattle.qn_value.proofs.Sums.{perm-map}
 use Rattle.qn_value.proofs.RowsLemmas.{values_back}
-use Rattle.qn_value.proofs.Values.{both_ways}
 use Rattle.qn_value.proofs.PlacedLemmas.{HaveSectorsOn, sectors_fit, arrow_back}
 use Rattle.qn_value.proofs.CoupleLemmas.{open_before}
 use Rattle.qn_value.proofs.CoupledLemmas.{leg_at, slot_at, well_labelled}
 use Rattle.qn_strides.specs.Strides.{in_place, out_place, goal_couples, open_places, goal_places, couples_meet, sector_parities}
-use Rattle.qn_strides.proofs.Goal.{below_positions, map_members, perm_goal, bonds_at, end_at, all_ends, AreEnds, IsNumbered, numbered_first, numbered_rest, numbered_ends, numbered, pairs_at, in_sectors, uniform, in_positions}
-use Rattle.qn_strides.proofs.Along.{AreDims}
-
-pub map-map : {A B C : Type 0} (f : A → B) (g : B → C) (xs : List A) → map g (map f xs) ≡ map (λ x. g (f x)) xs
-map-map f g [] = refl
-map-map f g (x ∷ xs) = ap (λ zs. g (f x) ∷ zs) (map-map f g xs)
+use Rattle.qn_strides.proofs.Goal.{below_positions, map_members, perm_goal, bonds_at, end_at, all_ends, AreEnds, IsNumbered, numbered_first, numbered_rest, numbered_ends, numbered, pairs_at, in_sectors, uniform}
+use Rattle.qn_strides.proofs.Along.{AreDims, map-map}
+use Rattle.qn_facts.proofs.Booleans.{same_tests}
 
 pub legs_from : (g : ℕ → LegValue) (a : ℕ) (ls : List LegValue) → ((k : ℕ) → k < length ls → g (a + k) ≡ get_or ls k no_leg) → map g (range_with_len a (length ls)) ≡ ls
 legs_from g a [] h = refl
@@ -65,7 +61,7 @@ fit_in ls cs sectors (x ∷ xs) i h k = go (i == x) refl (fit_in ls cs sectors x
 
 pub lines_fit : (ls : List LegValue) (cs : List (ℕ × ℕ)) → IsCoupling ls cs → FitLines ls cs (sectors_on (all_slots ls cs))
 lines_fit ls cs good i l =
-    fit_in ls cs (sectors_on (all_slots ls cs)) (positions (length ls)) i (sectors_fit (all_slots ls cs) (uniform ls cs good (positions (length ls)))) (in_positions 0 (length ls) i (omega arith) (omega arith))
+    fit_in ls cs (sectors_on (all_slots ls cs)) (positions (length ls)) i (sectors_fit (all_slots ls cs) (uniform ls cs good (positions (length ls)))) (is_in-positions 0 (length ls) i (omega arith) (omega arith))
 
 -- the places are legs
 abbrev pub AreWithin : List LegValue → List ℕ → Type 0
@@ -181,7 +177,7 @@ dims_fit n ls (c ∷ cs) all sectors t k f g h = (
     at = ap k (sym (numbered_ends n ls c cs (label_at all) h).first) ∙ g (in_place ls c) (in_within ls c (numbered_first n ls c cs (label_at all) h))
 
 same_turn : (x y : ℕ) → (x == y) ≡ (y == x)
-same_turn x y = both_ways (x == y) (y == x) (λ e. eq-eqb y x (sym (eqb-true x y e))) (λ e. eq-eqb x y (sym (eqb-true y x e)))
+same_turn x y = same_tests (x == y) (y == x) (λ e. eq-eqb y x (sym (eqb-true x y e))) (λ e. eq-eqb x y (sym (eqb-true y x e)))
 
 -- the tuple meets on the bonds exactly where its couples meet
 pub meets_are : (n : ℕ) (ls : List LegValue) (cs all : List (ℕ × ℕ)) (t : List ℕ) (k : Assignment) → GivesTuple ls all t k → IsNumbered n ls cs (label_at all) →

@@ -1,15 +1,14 @@
 -- The open legs of a contraction, and the values at the places of its blocks.
-use Rattle.std.proofs.Common.{◌≡◌, ℕ, zero, suc, ◌+◌, ◌/◌, ◌%◌, ℤ, List, [], ◌∷◌, ◌++◌, refl, sym, ◌∙◌, ap, ap₂, subst, map, length, append-nil}
+use Rattle.std.proofs.Common.{◌≡◌, ℕ, zero, suc, ◌+◌, ℤ, List, [], ◌∷◌, ◌++◌, refl, sym, ◌∙◌, ap, ap₂, subst, map, length, append-nil}
 use Rattle.std.proofs.lemmas.List.FromFn.{length-map-range_with_len}
 use Rattle.qn_sign.specs.Sign.{IsDistinct}
-use Rattle.qn_sign.specs.Positions.{positions}
 use Rattle.qn_sign.proofs.Order.{distinct-perm, distinct_second}
-use Rattle.qn_index.specs.Legs.{LegValue, SectorValue, before}
+use Rattle.qn_index.specs.Legs.{LegValue, SectorValue}
 use Rattle.qn_index.specs.Tuples.{IsTuple}
-use Rattle.qn_index.specs.Places.{block_size, inner_of, values_at}
+use Rattle.qn_index.specs.Places.{values_at}
 use Rattle.qn_value.specs.Networks.{End, same_end, goal, pairs_of}
 use Rattle.qn_value.specs.Labels.{ends, open_end, opens_of, IsWellLabelled}
-use Rattle.qn_value.specs.Blocks.{legs_on, values_in}
+use Rattle.qn_value.specs.Blocks.{legs_on}
 use Rattle.qn_value.specs.Local.{IsCoupling}
 use Rattle.qn_value.proofs.NetLaws.{end_test}
 use Rattle.qn_value.proofs.CoupleLemmas.{open_before}
@@ -17,11 +16,8 @@ use Rattle.qn_value.proofs.CoupledLemmas.{leg_at, well_labelled}
 use Rattle.qn_strides.specs.Strides.{open_places}
 use Rattle.qn_strides.proofs.Goal.{bonds_at, end_at, all_ends, opens_at}
 use Rattle.qn_strides.proofs.Lines.{all_slots, ends_all, FitLines, legs_on_places, open_within, goal_perm}
-
-pub place_same : (ls : List LegValue) (t : List ℕ) (n : ℕ) → values_at ls t n ≡ values_in ls t (inner_of ls t n)
-place_same [] t n = refl
-place_same (l ∷ ls) [] n = refl
-place_same (l ∷ ls) (s ∷ ss) n = ap (λ xs. (before l.sectors s + n / block_size ls ss) ∷ xs) (place_same ls ss (n % block_size ls ss))
+pub use Rattle.qn_value.proofs.TensorBlocks.{values_by_inner as place_same}
+use Rattle.qn_value.proofs.TensorBlocks.{values_long}
 
 pub length_maps : {A B : Type 0} (f : ℕ → A) (g : ℕ → B) (xs : List ℕ) → length (map f xs) ≡ length (map g xs)
 length_maps f g [] = refl
@@ -36,11 +32,6 @@ left_legs ls cs = map (leg_at ls) (open_places cs (length ls))
 
 abbrev pub left_ends : List LegValue → List (ℕ × ℕ) → List End
 left_ends ls cs = map (end_at ls cs) (open_places cs (length ls))
-
-pub values_long : (ls : List LegValue) (t : List ℕ) (n : ℕ) → IsTuple ls t → length (values_at ls t n) ≡ length ls
-values_long [] t n h = refl
-values_long (l ∷ ls) [] n h = absurd h
-values_long (l ∷ ls) (s ∷ ss) n h = ap suc (values_long ls ss (n % block_size ls ss) h.1)
 
 opens_long : (es : List End) (n : ℕ) → length (opens_of es n) ≡ n
 opens_long es zero = refl

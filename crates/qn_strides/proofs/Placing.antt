@@ -1,5 +1,5 @@
 -- Lists of places and parities that are made one element at a time.
-use Rattle.std.proofs.Common.{◌≡◌, ◌≤◌, ◌<◌, ◌-◌, ℕ, zero, suc, ◌+◌, Bool, true, false, not, cond, List, [], ◌∷◌, ◌++◌, refl, sym, ◌∙◌, ap, subst, filter, length, get_or, take, drop, zero-add, add-one, append-nil, append_assoc, arith}
+use Rattle.std.proofs.Common.{◌≡◌, ◌<◌, ◌-◌, ℕ, zero, suc, ◌+◌, Bool, true, false, not, cond, List, [], ◌∷◌, ◌++◌, refl, sym, ◌∙◌, ap, filter, length, get_or, take, zero-add, add-one, append-nil, arith}
 use Rattle.std.specs.List.{All}
 use Rattle.std.proofs.lemmas.List.{take_all, take_more}
 use Rattle.std.proofs.lemmas.List.Elements.{filter-append}
@@ -9,8 +9,8 @@ use Rattle.qn_charge.specs.Charges.{parity}
 use Rattle.qn_index.specs.Legs.{LegValue, sector_at}
 use Rattle.qn_index.specs.Tuples.{IsTuple}
 use Rattle.qn_value.specs.Local.{is_coupled, IsCouple}
-use Rattle.qn_strides.specs.Strides.{in_place, out_place, goal_couples, open_places, goal_places, sector_parities}
-use Rattle.qn_strides.proofs.Goal.{range_last}
+use Rattle.qn_strides.specs.Strides.{goal_couples, open_places, sector_parities}
+use Rattle.qn_facts.proofs.Lists.{range_last}
 
 places_next : (cs : List (ℕ × ℕ)) (n : ℕ) → open_places cs (n + 1) ≡ open_places cs n ++ cond (not (is_coupled cs n)) (n ∷ []) []
 places_next cs n =
@@ -28,29 +28,6 @@ places_passed cs n xs e h = e ∙ sym (places_next cs n ∙ ap (λ b. open_place
 pub record IsPlaced (ls : List LegValue) (cs rest : List (ℕ × ℕ)) (goal : List ℕ) : Type 0 where
   pub made : goal ++ goal_couples ls rest ≡ goal_couples ls cs
   pub couples : All (IsCouple ls) rest
-
-pub placed_first : (ls : List LegValue) (cs : List (ℕ × ℕ)) → All (IsCouple ls) cs → IsPlaced ls cs cs []
-placed_first ls cs h = record { made = refl; couples = h }
-
-pub placed_more : (ls : List LegValue) (cs rest : List (ℕ × ℕ)) (c : ℕ × ℕ) (goal : List ℕ) (i j : ℕ) → 1 ≤ length rest → c ≡ get_or rest 0 c → IsPlaced ls cs rest goal → i ≡ in_place ls c → j ≡ out_place ls c →
-    IsPlaced ls cs (take (length rest - 1) (drop 1 rest)) ((goal ++ i ∷ []) ++ j ∷ [])
-placed_more ls cs [] c goal i j h e k f g = absurd (omega arith)
-placed_more ls cs (d ∷ ds) c goal i j h e k f g =
-    subst (λ ys. IsPlaced ls cs ys ((goal ++ i ∷ []) ++ j ∷ [])) (sym (take_all (length (d ∷ ds) - 1) ds (omega arith))) record {
-      made =
-          append_assoc (goal ++ i ∷ []) (j ∷ []) (goal_couples ls ds)
-          ∙ append_assoc goal (i ∷ []) (j ∷ goal_couples ls ds)
-          ∙ (λ t. goal ++ ((f ∙ ap (in_place ls) e) t ∷ (g ∙ ap (out_place ls) e) t ∷ goal_couples ls ds))
-          ∙ k.made;
-      couples = λ n d l. k.couples (suc n) d (omega arith);
-    }
-
-pub placed_couple : (ls : List LegValue) (cs rest : List (ℕ × ℕ)) (c : ℕ × ℕ) (goal : List ℕ) → 1 ≤ length rest → c ≡ get_or rest 0 c → IsPlaced ls cs rest goal → IsCouple ls c
-placed_couple ls cs rest c goal h e k = subst (IsCouple ls) (sym e) (k.couples 0 c (omega arith))
-
-pub placed_all : (ls : List LegValue) (cs rest : List (ℕ × ℕ)) (goal left : List ℕ) → length rest < 1 → IsPlaced ls cs rest goal → left ≡ open_places cs (length ls) → goal ++ left ≡ goal_places ls cs
-placed_all ls cs [] goal left h k e = ap (λ ys. goal ++ ys) e ∙ ap (λ ys. ys ++ open_places cs (length ls)) (sym (append-nil goal) ∙ k.made)
-placed_all ls cs (d ∷ ds) goal left h k e = absurd (omega arith)
 
 parity_at_place : (fs : List Factor) (ls : List LegValue) (t : List ℕ) (i : ℕ) (l : LegValue) (d : Bool) → IsTuple ls t → i < length ls → get_or (sector_parities fs ls t) i d ≡ parity fs (sector_at (get_or ls i l).sectors (get_or t i 0)).charge
 parity_at_place fs [] t i l d h lt = absurd (omega arith)

@@ -7,15 +7,13 @@ use Rattle.qn_index.specs.Legs.{LegValue, IsSound, IsLeg, HasDim, no_sector, sec
 use Rattle.qn_index.specs.Tuples.{IsTuple}
 use Rattle.qn_index.specs.Places.{block_size}
 use Rattle.qn_index.proofs.Nets.{tuple_at}
-use Rattle.qn_value.specs.Local.{no_leg, IsCouple}
+use Rattle.qn_value.specs.Local.{no_leg}
 use Rattle.qn_strides.specs.Strides.{in_place, SummedValue, summed_axes, strides, stride_at, KeptValue, kept_axes, IsKept, IsSummed}
+use Rattle.qn_index.proofs.Admitted.{block_some}
 
 pub record IsStriding (ls : List LegValue) (t : List ℕ) (i size : ℕ) (out : List ℕ) : Type 0 where
   pub made : out ≡ take i (strides ls t)
   pub size_is : size ≡ block_size (drop i ls) (drop i t)
-
-pub striding_first : (ls : List LegValue) (t : List ℕ) (size : ℕ) → size ≡ block_size ls t → IsStriding ls t 0 size []
-striding_first ls t size e = record { made = refl; size_is = e }
 
 pub stride_is : (ls : List LegValue) (t : List ℕ) (i d : ℕ) → IsTuple ls t → i < length ls → get_or (strides ls t) i d ≡ block_size (drop (suc i) ls) (drop (suc i) t)
 stride_is [] t i d h lt = absurd (omega arith)
@@ -115,24 +113,12 @@ axes_more ls t cs i d axes x lt h f g small = record {
   small = all_last IsSummed axes x h.small small;
 }
 
-pub couple_read : (ls : List LegValue) (cs : List (ℕ × ℕ)) (i : ℕ) (c : ℕ × ℕ) → All (IsCouple ls) cs → i < length cs → c ≡ get_or cs i c → IsCouple ls c
-couple_read ls cs i c h lt e = subst (IsCouple ls) (sym e) (h i c lt)
-
 -- ---- the open legs
-
-pub strides_some : (ls : List LegValue) (t : List ℕ) → All IsSound ls → IsTuple ls t → 0 < block_size ls t
-strides_some [] t sound h = omega arith
-strides_some (l ∷ ls) [] sound h = absurd h
-strides_some (l ∷ ls) (s ∷ ss) sound h =
-    let d : HasDim (sector_at l.sectors s) = dim_good (l ∷ ls) (s ∷ ss) 0 l sound h (omega arith) refl in
-    let r : 0 < block_size ls ss = strides_some ls ss (λ i x m. sound (suc i) x (omega arith)) h.1 in
-    let p : block_size ls ss ≤ (sector_at l.sectors s).dim * block_size ls ss = product_grows (sector_at l.sectors s).dim (block_size ls ss) d.0 in
-    omega (arith, r, p)
 
 pub stride_some : (ls : List LegValue) (t : List ℕ) (i : ℕ) → All IsSound ls → IsTuple ls t → i < length ls → 0 < block_size (drop (suc i) ls) (drop (suc i) t)
 stride_some [] t i sound h lt = absurd (omega arith)
 stride_some (l ∷ ls) [] i sound h lt = absurd h
-stride_some (l ∷ ls) (s ∷ ss) zero sound h lt = strides_some ls ss (λ i x m. sound (suc i) x (omega arith)) h.1
+stride_some (l ∷ ls) (s ∷ ss) zero sound h lt = block_some ls ss (λ i x m. sound (suc i) x (omega arith)) h.1
 stride_some (l ∷ ls) (s ∷ ss) (suc i) sound h lt = stride_some ls ss i (λ j x m. sound (suc j) x (omega arith)) h.1 (omega arith)
 
 no_axis : KeptValue

@@ -1,5 +1,5 @@
 -- Sums over a list that are added up one summand at a time, with their sums of magnitudes and the steps taken.
-use Rattle.std.proofs.Common.{◌≡◌, ◌≤◌, ◌<◌, ◌-◌, ℕ, suc, ◌+◌, List, [], ◌∷◌, refl, sym, ◌∙◌, ap, subst, length, get_or, take, drop, zero-add, arith}
+use Rattle.std.proofs.Common.{◌≡◌, ◌≤◌, ◌<◌, ◌-◌, ℕ, suc, ◌+◌, List, [], ◌∷◌, sym, ◌∙◌, ap, subst, length, get_or, take, drop, zero-add, arith}
 use Rattle.std.specs.List.{All, sum_by}
 use Rattle.std.proofs.lemmas.List.{take_all}
 use Rattle.std.proofs.lemmas.List.Sums.{sum_by-cons}
@@ -44,18 +44,6 @@ module _ {X : Type 0} (P : X → Type 0) (term : X → Gaussian) (amount work : 
         good = λ i d n. k.good (suc i) d (omega arith);
         steps_are = omega (arith, s, ap work e, k.steps_are, sum_by-cons work y ys);
       }
-
-  pub record IsStopped (later : ℕ) : Type 0 where
-    pub passes : limit < sum_by amount all
-    pub steps_are : later ≤ start + sum_by work all
-
-  pub summed_stop : (rest : List X) (x : X) (sum : Gaussian) (size steps later : ℕ) → 1 ≤ length rest → x ≡ get_or rest 0 x → IsSummedUp rest sum size steps →
-      limit < size + amount x → later ≤ steps + work x → IsStopped later
-  summed_stop [] x sum size steps later h e k p s = absurd (omega arith)
-  summed_stop (y ∷ ys) x sum size steps later h e k p s = record {
-    passes = omega (arith, p, ap amount e, k.size_is, sum_by-cons amount y ys);
-    steps_are = omega (arith, s, ap work e, k.steps_are, sum_by-cons work y ys);
-  }
 
   pub record IsWhole (sum : Gaussian) (steps : ℕ) : Type 0 where
     pub value : sum ≡ sum_over all term

@@ -1,16 +1,13 @@
 -- The entries of a block, written one after another, each with its sum of magnitudes within the limit.
-use Rattle.std.proofs.Common.{◌≡◌, ◌≤◌, ◌<◌, ℕ, zero, suc, ◌+◌, List, [], ◌∷◌, ◌++◌, refl, sym, ◌∙◌, ap, ap₂, subst, map, zero-add, add-one, ◌⊎◌, inl, inr, eq-or-lt_of_le, arith}
+use Rattle.std.proofs.Common.{◌≡◌, ◌≤◌, ◌<◌, ℕ, ◌+◌, List, [], ◌∷◌, ◌++◌, sym, ◌∙◌, ap, ap₂, subst, map, zero-add, add-one, ◌⊎◌, inl, inr, eq-or-lt_of_le, arith}
 use Rattle.std.proofs.lemmas.List.{map-append}
 use Rattle.qn_sign.specs.Positions.{positions}
 use Rattle.qn_gauss.specs.Gaussian.{Gaussian, limit}
-use Rattle.qn_strides.proofs.Goal.{range_last}
+use Rattle.qn_facts.proofs.Lists.{range_last}
 
 pub record AreEntries (entry : ℕ → Gaussian) (amount : ℕ → ℕ) (n : ℕ) (out : List Gaussian) : Type 0 where
   pub made : out ≡ map entry (positions n)
   pub clear : (j : ℕ) → j < n → amount j ≤ limit
-
-pub entries_first : (entry : ℕ → Gaussian) (amount : ℕ → ℕ) → AreEntries entry amount 0 []
-entries_first entry amount = record { made = refl; clear = λ j l. absurd (omega arith) }
 
 pub entries_more : (entry : ℕ → Gaussian) (amount : ℕ → ℕ) (n : ℕ) (out : List Gaussian) (z : Gaussian) → AreEntries entry amount n out → z ≡ entry n → amount n ≤ limit → AreEntries entry amount (n + 1) (out ++ z ∷ [])
 entries_more entry amount n out z h e s = record {

@@ -6,7 +6,8 @@ ghost use Rattle.qn_strides.specs.Strides.{start_of, IsKept};
 
 use std::marker::Model;
 
-/// The two legs of a couple in a block: how many values they have together, and how far apart the entries of neighbouring values stand.
+/// The two legs of a couple in a block: how many values they have together, and how far apart the entries of
+/// neighbouring values stand.
 #[derive(Clone, Copy, Debug, PartialEq, Eq)]
 pub struct Summed {
     pub len: u64,
@@ -23,7 +24,8 @@ impl Model for Summed {
     ghost inverse = { λ x. record { len = x.len; stride = x.stride } };
 }
 
-/// An open leg: how far apart the entries of neighbouring values stand in the result's block, and in the block that is summed over.
+/// An open leg: how far apart the entries of neighbouring values stand in the result's block, and in the block that is
+/// summed over.
 #[derive(Clone, Copy, Debug, PartialEq, Eq)]
 pub struct Kept {
     pub size: u64,

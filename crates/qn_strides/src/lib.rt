@@ -1,4 +1,6 @@
 //! Entries of blocks as strided arrays, and sums along them.
+//!
+//! For traces and contractions of pairs. It hands on strides, places and the sum over couples, with its laws.
 #![tactic(auto)]
 
 mod axis;

@@ -64,7 +64,8 @@ pub fn open_places(
     Ok(places)
 }
 
-/// The places of all legs in the order of the goal: for each couple its In leg and its Out leg, and after them the open legs.
+/// The places of all legs in the order of the goal: for each couple its In leg and its Out leg, and after them the open
+/// legs.
 pub fn goal_places<const K: usize>(
     alloc: Global,
     legs: &[Leg<K>],

@@ -61,7 +61,8 @@ fn summed_pair<const K: usize>(
     requires steps { steps.now ≡ strides legs.now tuple.now }
     requires small { All (λ w. w ≤ 2 ^ 22) steps.now }
     requires couple { IsCouple legs.now couple.now }
-    ensures len { result.len ≡ (sector_at (slice_index_or legs.now (in_place legs.now couple.now) no_leg).sectors (slice_index_or tuple.now (in_place legs.now couple.now) 0)).dim }
+    ensures len { result.len ≡
+        (sector_at (slice_index_or legs.now (in_place legs.now couple.now) no_leg).sectors (slice_index_or tuple.now (in_place legs.now couple.now) 0)).dim }
     ensures stride { result.stride ≡ stride_at legs.now tuple.now couple.now.0 + stride_at legs.now tuple.now couple.now.1 }
     ensures small { IsSummed result }
 {
@@ -134,7 +135,9 @@ pub fn is_minus<const K: usize>(
 ) -> Result<bool, AllocError>
     requires tuple { IsTuple legs.now tuple.now }
     requires goal { All (λ k. k < length legs.now) goal.now }
-    ensures { IfOk result (λ m. m ≡ exchange_sign ◌==◌ (is_odd_at (sector_parities group.now legs.now tuple.now)) (positions (length legs.now)) goal.now) }
+    ensures { IfOk result (λ m.
+        m ≡
+        exchange_sign ◌==◌ (is_odd_at (sector_parities group.now legs.now tuple.now)) (positions (length legs.now)) goal.now) }
 {
     let odd = sector_parities(alloc, group, legs, tuple)?;
     Ok(sign_of(&odd, legs.len(), goal))

@@ -72,7 +72,8 @@ pub fn add_along(
     requires room { start + length axes.now * 2 ^ 40 ≤ 2 ^ 60 }
     requires bound { size ≤ limit }
     requires within { mag sum ≤ size }
-    ensures value { IfSome result (λ z. z.0 ≡ add_g sum (signed minus (sum_along (λ p. slice_index_or entries.now p zero_g) axes.now start))) }
+    ensures value { IfSome result (λ z.
+        z.0 ≡ add_g sum (signed minus (sum_along (λ p. slice_index_or entries.now p zero_g) axes.now start))) }
     ensures size { IfSome result (λ z. z.1 ≡ size + total_along (λ p. mag (slice_index_or entries.now p zero_g)) axes.now start) }
     ensures bound { IfSome result (λ z. z.1 ≤ limit) }
     ensures within { IfSome result (λ z. mag z.0 ≤ z.1) }

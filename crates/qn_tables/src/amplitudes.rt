@@ -10,7 +10,8 @@ use qn_sites::SiteTable;
 use std::alloc::{AllocError, Global};
 use std::process::Abort;
 
-// The value of the link left of a site, where there is one, then the value of the site, then that of the link right of it.
+// The value of the link left of a site, where there is one, then the value of the site, then that of the link right of
+// it.
 fn values_of(
     alloc: Global,
     is_first: bool,
@@ -29,8 +30,8 @@ fn values_of(
     Ok(values)
 }
 
-// The sum over the values of the link left of a site, at one value of the link right of it. Each value left has the sum over
-// the sites before as its product.
+// The sum over the values of the link left of a site, at one value of the link right of it. Each value left has the sum
+// over the sites before as its product.
 fn summed<const K: usize>(
     rt: &impl Abort,
     alloc: Global,
@@ -122,7 +123,8 @@ fn column<const K: usize>(
     Ok(total)
 }
 
-// The sum over t and s of the conjugate of the bra's amplitude at t, the operator sum between t and s, and the ket's amplitude at s.
+// The sum over t and s of the conjugate of the bra's amplitude at t, the operator sum between t and s, and the ket's
+// amplitude at s.
 pub(crate) fn expectation<const K: usize>(
     rt: &impl Abort,
     alloc: Global,

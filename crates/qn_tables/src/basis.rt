@@ -1,3 +1,5 @@
+//! The states of a basis of sites, one value for each site.
+
 use crate::number::Number;
 use qn_block::BlockTensor;
 use qn_charge::{Charge, Group};

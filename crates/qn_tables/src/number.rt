@@ -1,6 +1,7 @@
+//! A small Gaussian integer in plain arithmetic, which the engine's numbers have no part in.
+
 use qn_gauss::Gauss;
 
-// A small Gaussian integer in plain arithmetic, which the engine's numbers have no part in.
 #[derive(Clone, Copy, Debug, PartialEq)]
 pub(crate) struct Number {
     pub(crate) re: i64,

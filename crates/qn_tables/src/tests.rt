@@ -1,3 +1,5 @@
+//! Automata against strings of operators, and texts of the program against sums over all basis states.
+
 ghost use Rattle.std.specs.Prelude.{◌≡◌, ◌<◌};
 
 use crate::amplitudes::{expectation, overlap};

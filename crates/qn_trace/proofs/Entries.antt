@@ -26,9 +26,10 @@ use Rattle.qn_strides.specs.Strides.{goal_places, open_places, sector_parities, 
 use Rattle.qn_trace.specs.Sources.{SourceValue, fits, source_of, sources, source_term, entry_sum}
 use Rattle.qn_strides.proofs.Goal.{bonds_at, all_ends, bonds_perm}
 use Rattle.qn_strides.proofs.Lines.{all_slots, ends_all, FitLines, lines_fit, gives_tuple, legs_on_all, sector_parity, parities_are}
-use Rattle.qn_strides.proofs.Blocks.{over_tuples, have_tuples, distinct_blocks}
+use Rattle.qn_strides.proofs.Blocks.{over_tuples}
 use Rattle.qn_strides.proofs.Opens.{left_legs, left_ends, ends_long, opens_eq}
 use Rattle.qn_trace.proofs.Traces.{block_term, blocked, lines_odd, network, entry_by_terms}
+use Rattle.qn_value.proofs.TensorBlocks.{tuples_there, blocks_distinct}
 
 pub slots_are : (t : TensorValue) (cs : List (ℕ × ℕ)) → slots (coupled (t ∷ []) cs) ≡ all_slots t.legs cs
 slots_are t cs =
@@ -102,11 +103,11 @@ module _ (fs : List Factor) (ls : List LegValue) (q : List ℤ) (bs : List Block
       trace_entry t cs (values_at (left_legs ls cs) ss n) ≡ entry_sum (sources fs ls cs (left_legs ls cs) ss bs) n
   entry_is ss n h lt =
       let xs : List ℕ = values_at (left_legs ls cs) ss n in
-      let have : HaveTuples ls bs = have_tuples fs ls q bs blocks in
+      let have : HaveTuples ls bs = tuples_there fs ls q bs blocks in
       ap (λ (sl : List Slot). flat (parity_of fs sl) (node_of (labelled t cs) ∷ []) (bonds_of [] sl) (opens_of (ends sl) (length xs)) (at_values (opens_of (ends sl) (length xs)) xs)) (slots_are t cs)
       ∙ ap (λ (os : List End). flat (parity_of fs (all_slots ls cs)) (node_of (labelled t cs) ∷ []) (bonds_of [] (all_slots ls cs)) os (at_values os xs)) (opens_eq ls cs good ss n h)
       ∙ flat_terms (sector_parity fs lines) lines ls cs good (lines_fit ls cs good) bs (parity fs q) (node_of (labelled t cs)) alike (bonds_of [] (all_slots ls cs)) (bonds_perm ls cs good)
-      (distinct_blocks bs rises) have ss n h lt
+      (blocks_distinct bs rises) have ss n h lt
       ∙ over_tuples ls bs _ (block_term ls cs (sector_parities fs ls) ss n) have (λ b tuple.
       ap (λ (o : List Bool). when (fits cs ss places b) (signed (exchange_sign ◌==◌ (is_odd_at o) (positions (length ls)) (goal_places ls cs)) (sum_along (λ p. get_or b.entries p zero_g) (summed_axes ls b.tuple cs) (start_of (kept_axes (strides ls b.tuple) (left_legs ls cs) ss places) n))))
       (parities_are fs ls cs lines b.tuple (at_values (all_ends ls cs) b.tuple) (lines_fit ls cs good) (gives_tuple ls cs good b.tuple (tuple_length ls b.tuple tuple)) (tuple_length ls b.tuple tuple)))

@@ -1,7 +1,7 @@
 -- The blocks that count for a tuple of the result, gathered one at a time.
-use Rattle.std.proofs.Common.{◌≡◌, ◌<◌, ℕ, ◌+◌, Bool, true, false, cond, List, [], ◌∷◌, ◌++◌, refl, sym, ◌∙◌, ap, ap₂, length, take, get_or, append-nil, arith}
+use Rattle.std.proofs.Common.{◌≡◌, ◌<◌, ℕ, ◌+◌, Bool, true, false, cond, List, [], ◌∷◌, ◌++◌, refl, sym, ◌∙◌, ap, ap₂, length, take, get_or, append-nil}
 use Rattle.std.specs.List.{All}
-use Rattle.std.proofs.lemmas.List.{take_all, take_more}
+use Rattle.std.proofs.lemmas.List.{take_more}
 use Rattle.qn_charge.specs.declared.factor.Factor.{Factor}
 use Rattle.qn_value.specs.Tensors.{BlockValue}
 use Rattle.qn_index.specs.Legs.{LegValue}
@@ -14,9 +14,6 @@ use Rattle.qn_strides.proofs.Lines.{all_within, open_within}
 pub record AreGathered (fs : List Factor) (ls : List LegValue) (cs : List (ℕ × ℕ)) (rs : List LegValue) (ss : List ℕ) (bs : List BlockValue) (i : ℕ) (out : List SourceValue) : Type 0 where
   pub made : out ≡ sources fs ls cs rs ss (take i bs)
   pub small : All IsSource out
-
-pub gathered_first : (fs : List Factor) (ls : List LegValue) (cs : List (ℕ × ℕ)) (rs : List LegValue) (ss : List ℕ) (bs : List BlockValue) → AreGathered fs ls cs rs ss bs 0 []
-gathered_first fs ls cs rs ss bs = record { made = refl; small = λ k d l. absurd (omega arith) }
 
 sources_last : (fs : List Factor) (ls : List LegValue) (cs : List (ℕ × ℕ)) (rs : List LegValue) (ss : List ℕ) (bs : List BlockValue) (b : BlockValue) →
     sources fs ls cs rs ss (bs ++ b ∷ []) ≡ sources fs ls cs rs ss bs ++ sources fs ls cs rs ss (b ∷ [])
@@ -55,9 +52,6 @@ gathered_passed fs ls cs rs ss bs i b out ps lt e p f h = record {
       ∙ sym (gathered_next fs ls cs rs ss bs i b lt e);
   small = h.small;
 }
-
-pub gathered_all : (fs : List Factor) (ls : List LegValue) (cs : List (ℕ × ℕ)) (rs : List LegValue) (ss : List ℕ) (bs : List BlockValue) (i : ℕ) (out : List SourceValue) → i ≡ length bs → AreGathered fs ls cs rs ss bs i out → out ≡ sources fs ls cs rs ss bs
-gathered_all fs ls cs rs ss bs i out e h = h.made ∙ ap (sources fs ls cs rs ss) (take_all i bs (omega (arith, e)))
 
 -- the open legs are legs
 pub open_below : (ls : List LegValue) (cs : List (ℕ × ℕ)) → All (λ k. k < length ls) (open_places cs (length ls))

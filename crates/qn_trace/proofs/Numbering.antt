@@ -6,7 +6,7 @@ use Rattle.std.specs.List.Sorted.{IsSearchInRange, IsBinarySearchResult}
 use Rattle.std.specs.Cmp.Lexicographic.{slice_cmp}
 use Rattle.std.specs.Ordering.{nat_cmp, ordering_index}
 use Rattle.std.specs.declared.cmp.Ordering.TheVariants.{Less, Equal, Greater}
-use Rattle.std.proofs.lemmas.Bool.{cases_lt}
+use Rattle.std.proofs.lemmas.Bool.{cases_lt, and_from}
 use Rattle.std.proofs.lemmas.List.{length-set, get_or-set_same, get_or-set_other}
 use Rattle.qn_charge.specs.declared.factor.Factor.{Factor}
 use Rattle.qn_index.specs.Legs.{LegValue}
@@ -17,8 +17,8 @@ use Rattle.qn_value.specs.Local.{picked}
 use Rattle.qn_block.proofs.Lookup.{looked_up, not_below_itself}
 use Rattle.qn_block.proofs.Rows.{same_from, differ_from}
 use Rattle.qn_strides.specs.Strides.{couples_meet, open_places}
-use Rattle.qn_trace.specs.Sources.{SourceValue, source_of, sources, IsSource, IsBelow, IsNumberOf}
-use Rattle.qn_trace.proofs.Filling.{open_below, AreGathered, gathered_first, gathered_more, gathered_passed, gathered_all}
+use Rattle.qn_trace.specs.Sources.{SourceValue, source_of, IsSource, IsBelow, IsNumberOf}
+use Rattle.qn_trace.proofs.Filling.{open_below, AreGathered, gathered_more, gathered_passed}
 
 -- blocks without entries at these tuples
 abbrev blank : List (List ℕ) → List BlockValue
@@ -68,18 +68,8 @@ apart ts i j a l m n e = by (cases_lt i j)
         by_second (inl lt) = not_below_itself (get_or ts j []) (subst (λ u. slice_cmp nat_cmp (get_or ts j []) u ≡ Less) e (a j i [] lt l))
         by_second (inr le) = n (omega arith)
 
-and_true : (a b : Bool) → a ≡ true → b ≡ true → (a && b) ≡ true
-and_true a b e f = grind arith
-
-and_first : (a b : Bool) → a ≡ false → (a && b) ≡ false
-and_first a b e = grind arith
-
 and_second : (a b : Bool) → b ≡ false → (a && b) ≡ false
 and_second a b e = grind arith
-
--- a block whose couples do not meet
-pub number_none : (cs : List (ℕ × ℕ)) (ps : List ℕ) (ts : List (List ℕ)) (b : BlockValue) → couples_meet cs b.tuple ≡ false → IsNumberOf cs ps ts b None
-number_none cs ps ts b e k lt = and_first (couples_meet cs b.tuple) (same_values (get_or ts k []) (picked 0 b.tuple ps)) e
 
 -- a block whose couples meet, by where its open sectors stand
 pub number_is : (cs : List (ℕ × ℕ)) (ps : List ℕ) (ts : List (List ℕ)) (b : BlockValue) (t : List ℕ) (o : Option ℕ) → AllPairs IsBelow ts → couples_meet cs b.tuple ≡ true → t ≡ picked 0 b.tuple ps →
@@ -88,7 +78,7 @@ number_is cs ps ts b t None a e f h = λ k lt.
     and_second (couples_meet cs b.tuple) (same_values (get_or ts k []) (picked 0 b.tuple ps)) (differ_from (get_or ts k []) (picked 0 b.tuple ps) (λ s. h k lt (s ∙ sym f)))
 number_is cs ps ts b t (Some n) a e f h = (
   h.0,
-  and_true (couples_meet cs b.tuple) (same_values (get_or ts n []) (picked 0 b.tuple ps)) e (same_from (get_or ts n []) (picked 0 b.tuple ps) (h.1 ∙ f)),
+  and_from (couples_meet cs b.tuple) (same_values (get_or ts n []) (picked 0 b.tuple ps)) e (same_from (get_or ts n []) (picked 0 b.tuple ps) (h.1 ∙ f)),
   (λ k lt ne.
       and_second (couples_meet cs b.tuple) (same_values (get_or ts k []) (picked 0 b.tuple ps)) (differ_from (get_or ts k []) (picked 0 b.tuple ps) (λ s. apart ts k n a lt h.0 ne (s ∙ sym (h.1 ∙ f))))),
 )
@@ -98,13 +88,6 @@ number_is cs ps ts b t (Some n) a e f h = (
 pub record AreSorted (fs : List Factor) (ls : List LegValue) (cs : List (ℕ × ℕ)) (rs : List LegValue) (ts : List (List ℕ)) (bs : List BlockValue) (i : ℕ) (out : List (List SourceValue)) : Type 0 where
   pub long : length out ≡ length ts
   pub each : (k : ℕ) → k < length ts → AreGathered fs ls cs rs (get_or ts k []) bs i (get_or out k [])
-
-pub sorted_first : (fs : List Factor) (ls : List LegValue) (cs : List (ℕ × ℕ)) (rs : List LegValue) (ts : List (List ℕ)) (bs : List BlockValue) (out : List (List SourceValue)) → length out ≡ length ts → ((k : ℕ) → get_or out k [] ≡ []) →
-    AreSorted fs ls cs rs ts bs 0 out
-sorted_first fs ls cs rs ts bs out n h = record {
-  long = n;
-  each = λ k lt. subst (AreGathered fs ls cs rs (get_or ts k []) bs 0) (sym (h k)) (gathered_first fs ls cs rs (get_or ts k []) bs);
-}
 
 pub sorted_passed : (fs : List Factor) (ls : List LegValue) (cs : List (ℕ × ℕ)) (rs : List LegValue) (ts : List (List ℕ)) (bs : List BlockValue) (i : ℕ) (b : BlockValue) (out : List (List SourceValue)) (ps : List ℕ) → i < length bs → b ≡ get_or bs i b →
     ps ≡ open_places cs (length ls) → IsNumberOf cs ps ts b None → AreSorted fs ls cs rs ts bs i out → AreSorted fs ls cs rs ts bs (i + 1) out
@@ -139,16 +122,6 @@ sorted_more fs ls cs rs ts bs i b out new ps n x lt e p f g s made h = subst (Ar
         by_second : (n < k) ⊎ (k ≤ n) → AreGathered fs ls cs rs (get_or ts k []) bs (i + 1) (get_or (set out n all) k [])
         by_second (inl l) = other k m (λ q. absurd (omega arith))
         by_second (inr le) = here k (omega arith)
-
-pub sorted_all : (fs : List Factor) (ls : List LegValue) (cs : List (ℕ × ℕ)) (rs : List LegValue) (ts : List (List ℕ)) (bs : List BlockValue) (i : ℕ) (out : List (List SourceValue)) (k : ℕ) → i ≡ length bs → k < length ts → AreSorted fs ls cs rs ts bs i out →
-    (get_or out k [] ≡ sources fs ls cs rs (get_or ts k []) bs) × All IsSource (get_or out k [])
-sorted_all fs ls cs rs ts bs i out k e lt h = (gathered_all fs ls cs rs (get_or ts k []) bs i (get_or out k []) e (h.each k lt), (h.each k lt).small)
-
-pub empty_more : (xs : List (List SourceValue)) (y : List SourceValue) → y ≡ [] → ((k : ℕ) → get_or xs k [] ≡ []) → (k : ℕ) → get_or (xs ++ y ∷ []) k [] ≡ []
-empty_more [] y e h zero = e
-empty_more [] y e h (suc k) = refl
-empty_more (x ∷ xs) y e h zero = h 0
-empty_more (x ∷ xs) y e h (suc k) = empty_more xs y e (λ j. h (suc j)) k
 
 -- the open legs have sectors in the tuple of each block
 pub open_in : (ls : List LegValue) (cs : List (ℕ × ℕ)) (ps t : List ℕ) → ps ≡ open_places cs (length ls) → IsTuple ls t → All (λ p. p < length t) ps

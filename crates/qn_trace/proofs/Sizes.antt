@@ -9,7 +9,7 @@ use Rattle.qn_gauss.specs.Gaussian.{Gaussian, zero_g, add_g, mag, signed}
 use Rattle.qn_gauss.proofs.Ring.{mul_one}
 use Rattle.qn_charge.specs.declared.factor.Factor.{Factor}
 use Rattle.qn_charge.specs.Charges.{parity}
-use Rattle.qn_index.specs.Legs.{LegValue, SectorValue}
+use Rattle.qn_index.specs.Legs.{LegValue}
 use Rattle.qn_index.specs.Tuples.{IsTuple}
 use Rattle.qn_index.specs.Places.{block_size, values_at}
 use Rattle.qn_value.specs.Networks.{End, Node, Bond, Assignment, sign, product, sums, at_values, flat, AreAlike}
@@ -26,10 +26,10 @@ use Rattle.qn_strides.proofs.Goal.{all_ends, bonds_perm}
 use Rattle.qn_strides.proofs.Lines.{all_slots, lines_fit}
 use Rattle.qn_strides.proofs.Opens.{left_legs, left_ends}
 use Rattle.qn_trace.proofs.Traces.{block_term, blocked}
-use Rattle.qn_strides.proofs.Blocks.{have_tuples, distinct_blocks}
 use Rattle.qn_trace.proofs.Entries.{slots_are, labelled, tensor_from, flat_terms, alike, lines}
 use Rattle.qn_strides.proofs.Opens.{opens_eq}
 use Rattle.qn_strides.proofs.Reals.{real, real_add, real_zero, real_one, real_total, real_along, no_parity, exchange_none, sign_none, odd_none, size_of, size_block, size_entry, size_in, size_have, size_distinct, size_node}
+use Rattle.qn_value.proofs.TensorBlocks.{tuples_there, blocks_distinct}
 
 term_none : (m : Node) (bonds : List Bond) (opens : List End) (c : Assignment) →
     real (magnitudes (m ∷ []) c) ≡ signed (sign no_parity (size_node m ∷ []) bonds opens c) (product (size_node m ∷ []) c)
@@ -83,9 +83,6 @@ module _ (fs : List Factor) (ls : List LegValue) (q : List ℤ) (bs : List Block
   abbrev t : TensorValue
   t = tensor_from fs ls q bs
 
-  sectors : ℤ → List SectorValue
-  sectors = lines fs ls q bs cs good blocks rises
-
   size_alike : AreAlike (size_node (node_of (labelled t cs))) (blocked_node (lines fs ls q bs cs good blocks rises) (blocked no_parity (lines fs ls q bs cs good blocks rises) ls cs good (lines_fit ls cs good) (map size_block bs) (parity fs q)))
   size_alike = let a = alike fs ls q bs cs good blocks rises in record {
     ends = a.ends;
@@ -97,11 +94,11 @@ module _ (fs : List Factor) (ls : List LegValue) (q : List ℤ) (bs : List Block
       trace_magnitude t cs (values_at (left_legs ls cs) ss n) ≡ size_sum (sources fs ls cs (left_legs ls cs) ss bs) n
   size_is ss n h lt =
       let xs : List ℕ = values_at (left_legs ls cs) ss n in
-      let have : HaveTuples ls bs = have_tuples fs ls q bs blocks in
+      let have : HaveTuples ls bs = tuples_there fs ls q bs blocks in
       real_one (trace_magnitude t cs xs) (size_sum (sources fs ls cs (left_legs ls cs) ss bs) n) (
       ap (λ (sl : List Slot). real (total (bonds_of [] sl) (magnitudes (node_of (labelled t cs) ∷ [])) (at_values (opens_of (ends sl) (length xs)) xs))) (slots_are t cs)
       ∙ ap (λ (os : List End). real (total (bonds_of [] (all_slots ls cs)) (magnitudes (node_of (labelled t cs) ∷ [])) (at_values os xs))) (opens_eq ls cs good ss n h)
       ∙ real_magnitude (node_of (labelled t cs)) (bonds_of [] (all_slots ls cs)) (left_ends ls cs) (at_values (left_ends ls cs) xs)
       ∙ flat_terms no_parity (lines fs ls q bs cs good blocks rises) ls cs good (lines_fit ls cs good) (map size_block bs) (parity fs q) (size_node (node_of (labelled t cs))) size_alike (bonds_of [] (all_slots ls cs)) (bonds_perm ls cs good)
-      (size_distinct bs (distinct_blocks bs rises)) (size_have ls bs have) ss n h lt
+      (size_distinct bs (blocks_distinct bs rises)) (size_have ls bs have) ss n h lt
       ∙ sym (over_sizes fs ls cs ss n bs))

@@ -20,8 +20,9 @@ use Rattle.qn_strides.specs.Strides.{open_places, goal_places, couples_meet, sum
 use Rattle.qn_strides.proofs.Goal.{bonds_at, end_at, all_ends, numbered}
 use Rattle.qn_strides.proofs.Along.{block_along}
 use Rattle.qn_strides.proofs.Blocks.{over_tuples}
-use Rattle.qn_strides.proofs.Opens.{place_same, length_maps, ends_distinct, left_legs, left_ends, left_is, left_distinct}
+use Rattle.qn_strides.proofs.Opens.{length_maps, ends_distinct, left_legs, left_ends, left_is, left_distinct}
 use Rattle.qn_strides.proofs.Lines.{FitLines, GivesTuple, gives_tuple, legs_on_all, bonds_fit, dims_fit, meets_are, opens_are, not_twisted, goal_perm, sign_at}
+use Rattle.qn_value.proofs.TensorBlocks.{values_by_inner}
 
 -- what a block adds to an entry of the trace; `odd` gives the parities of its sectors
 abbrev pub block_term : List LegValue → List (ℕ × ℕ) → (List ℕ → List Bool) → List ℕ → ℕ → BlockValue → Gaussian
@@ -89,7 +90,7 @@ module _ (par : Parities) (sectors : ℤ → List SectorValue) (ls : List LegVal
       ≡ sum_over bs (block_term ls cs lines_odd ss n)
   entry_by_terms d have ss n h lt =
       ap (contract (by_sector sectors par) (blocked_node sectors blocked ∷ []) (bonds_at 1 ls cs) (left_ends ls cs)).entry
-      (place_same (left_legs ls cs) ss n ∙ ap (λ gs. values_in gs ss (inner_of (left_legs ls cs) ss n)) (sym (left_is sectors ls cs fit)))
+      (values_by_inner (left_legs ls cs) ss n ∙ ap (λ gs. values_in gs ss (inner_of (left_legs ls cs) ss n)) (sym (left_is sectors ls cs fit)))
       ∙ one_law par sectors blocked (bonds_at 1 ls cs) (left_ends ls cs) ss (inner_of (left_legs ls cs) ss n) network (bonds_fit 1 ls cs cs sectors fit (numbered ls cs good))
       (record { distinct = d; tuples = subst (λ gs. HaveTuples gs bs) (sym (legs_on_all ls cs sectors fit)) have })
       (subst (λ gs. IsTuple gs ss) (sym (left_is sectors ls cs fit)) h)

@@ -1,4 +1,6 @@
 //! Couples of legs of one tensor summed over.
+//!
+//! For the engine. It hands on `trace`, with the entries of its result and the first place that passes the limit.
 #![tactic(auto)]
 
 mod numbers;

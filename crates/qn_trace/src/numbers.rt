@@ -23,7 +23,8 @@ fn compare(tuple: &Tuple, sectors: &[u32]) -> Ordering
 /// Where the tuple of these sectors stands.
 fn find(tuples: &[Tuple], sectors: &[u32]) -> Option<usize>
     requires { AllPairs IsBelow tuples.now }
-    ensures { MatchOption result ((k : ℕ) → k < length tuples.now → slice_index_or tuples.now k [] ≢ sectors.now) (λ k. (k < length tuples.now) × (slice_index_or tuples.now k [] ≡ sectors.now)) }
+    ensures { MatchOption result ((k : ℕ) → k < length tuples.now → slice_index_or tuples.now k [] ≢ sectors.now) (λ k.
+        (k < length tuples.now) × (slice_index_or tuples.now k [] ≡ sectors.now)) }
 {
     match tuples.binary_search_by(|tuple| compare(tuple, sectors)) {
         Ok(number) => Some(number),

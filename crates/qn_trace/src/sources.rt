@@ -100,7 +100,9 @@ fn add_source<'a>(
     source: Source<'a>,
 ) -> Result<(), AllocError>
     requires { number < length gathered.old.items }
-    ensures { OnOk result (gathered.new.items ≡ set gathered.old.items number (slice_index_or gathered.old.items number [] ++ source.entry ∷ [])) }
+    ensures { OnOk result (
+        gathered.new.items ≡
+        set gathered.old.items number (slice_index_or gathered.old.items number [] ++ source.entry ∷ [])) }
 {
     gathered[number].list.push(source)?;
     Ok(())
@@ -127,7 +129,10 @@ pub(crate) fn sources_of<'a, const K: usize>(
     requires ascending { AllPairs IsBelow tuples.now }
     requires blocks { All (IsReadable legs.now) blocks.now }
     ensures long { IfOk result (λ v. length v.items ≡ length tuples.now) }
-    ensures each { IfOk result (λ v. (k : ℕ) → k < length tuples.now → slice_index_or v.items k [] ≡ sources group.now legs.now couples.now left.now (slice_index_or tuples.now k []) blocks.now) }
+    ensures each { IfOk result (λ v.
+        (k : ℕ) → k < length tuples.now →
+        slice_index_or v.items k [] ≡
+        sources group.now legs.now couples.now left.now (slice_index_or tuples.now k []) blocks.now) }
     ensures small { IfOk result (λ v. (k : ℕ) → k < length tuples.now → All IsSource (slice_index_or v.items k [])) }
 {
     let mut gathered = no_sources(alloc, tuples.len())?;

@@ -36,9 +36,17 @@ fn blocks_of<const K: usize>(
     requires shape { IsWithinLimits t.now.group left.now t.now.flux }
     ensures blocks { IfOk result (λ bs. All (IsBlock t.now.group left.now t.now.flux) bs.items) }
     ensures ascending { IfOk result (λ bs. AreAscending bs.items) }
-    ensures entries { IfOk result (λ bs. (xs : List ℕ) → MeetFlux t.now.group left.now t.now.flux xs → trace_entry (tensor_of t.now) couples.now xs ≡ entry_in left.now bs.items xs) }
-    ensures clear { OnOk result (first_passing (trace_magnitude (tensor_of t.now) couples.now) left.now (admitted t.now.group left.now t.now.flux) ≡ None) }
-    ensures err { IfErr result (IsStepFault (first_passing (trace_magnitude (tensor_of t.now) couples.now) left.now (admitted t.now.group left.now t.now.flux))) }
+    ensures entries { IfOk result (λ bs.
+        (xs : List ℕ) → MeetFlux t.now.group left.now t.now.flux xs →
+        trace_entry (tensor_of t.now) couples.now xs ≡ entry_in left.now bs.items xs) }
+    ensures clear { OnOk result (
+        first_passing (trace_magnitude (tensor_of t.now) couples.now) left.now (
+        admitted t.now.group left.now t.now.flux) ≡
+        None) }
+    ensures err { IfErr result (
+        IsStepFault (
+        first_passing (trace_magnitude (tensor_of t.now) couples.now) left.now (
+        admitted t.now.group left.now t.now.flux))) }
 {
     t.known();
     let tuples = admissible(alloc, t.group(), left, t.flux())?;
@@ -62,8 +70,9 @@ fn blocks_of<const K: usize>(
     Ok(blocks)
 }
 
-/// The tensor with the couples of legs summed over; the other legs stay in their order. The couples are pairs of places of legs that meet,
-/// and no leg stands in two of them. Entries are summed with the exchange sign of bringing the two legs of each couple together.
+/// The tensor with the couples of legs summed over; the other legs stay in their order. The couples are pairs of places
+/// of legs that meet, and no leg stands in two of them. Entries are summed with the exchange sign of bringing the two
+/// legs of each couple together.
 ///
 /// Passed where a sum of magnitudes is above 2^127 - 1, at the first such place, whatever the sum itself is.
 pub fn trace<const K: usize>(

@@ -1,3 +1,5 @@
+//! Traces over couples of legs, and sums that pass the limit.
+
 ghost use Rattle.std.specs.Prelude.{◌≡◌, ◌==◌, All, IfOk, IsTrue};
 ghost use Rattle.qn_sign.specs.Sign.{IsDistinct};
 ghost use Rattle.qn_index.specs.Legs.{IsLegOf};

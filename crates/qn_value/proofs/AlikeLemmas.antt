@@ -1,13 +1,10 @@
-use Rattle.std.proofs.Common.{◌≡◌, ℕ, suc, ℤ, Bool, not, filter, int_eq, List, [], ◌∷◌, ◌++◌, refl, sym, ◌∙◌, ap, ap₂, subst, length, ◌⊎◌, inl, inr, count_by}
+use Rattle.std.proofs.Common.{◌≡◌, ℕ, ℤ, Bool, not, filter, int_eq, List, [], ◌∷◌, ◌++◌, refl, sym, ◌∙◌, ap, ap₂, subst, ◌⊎◌, inl, inr, count_by}
 use mathlib.Core.Path.{fun_ext}
 use Rattle.qn_sign.specs.Sign.{exchanges, is_in, is_odd, xor, IsDistinct, Perm}
 use Rattle.qn_gauss.specs.Gaussian.{Gaussian, zero_g, mul_g, signed}
 use Rattle.qn_value.specs.Networks.{End, Node, Bond, Assignment, sums, same_end, word, goal, odd_end, twist_sign, values, product, flat, IsNetwork, IsHomogeneous, AreAlike, AllAlike, at_values, contract, odd_flux, kept, labels}
 use Rattle.qn_value.proofs.NetLaws.{word-append, product-append, node_path}
-
-length-values : (es : List End) (a : Assignment) → length (values es a) ≡ length es
-length-values [] a = refl
-length-values (e ∷ es) a = ap suc (length-values es a)
+use Rattle.qn_value.proofs.RowsLemmas.{length-values}
 
 entry_alike : (x y : Node) → AreAlike x y → (a : Assignment) → x.entry (values x.ends a) ≡ y.entry (values y.ends a)
 entry_alike x y h a = h.entry (values x.ends a) (length-values x.ends a) ∙ ap (λ es. y.entry (values es a)) h.ends

@@ -17,9 +17,10 @@ use Rattle.qn_gauss.proofs.Ring.{add_zero, mul_one, mul_zero}
 use Rattle.qn_sign.proofs.Order.{is_in-append, is_in-perm, distinct-perm, distinct_first, distinct_second, distinct_parts_back}
 use Rattle.qn_value.proofs.Sums.{sums-agree, DependsOn}
 use Rattle.qn_value.proofs.NetLaws.{end_test, signed-zero, sums-signed, twist-same, sign-agree, ends-labels, at_values-values, values-agree, labels_distinct}
-use Rattle.qn_value.proofs.Values.{both_ways, same_values-equal}
+use Rattle.qn_value.proofs.Values.{same_values-equal}
 use Rattle.qn_value.proofs.RowsLemmas.{zero_add, zero_mul, over-congr, over-signed, over-mul, mul-over, sums-over, same_values-itself, agrees, agrees_to, agrees_from, values-append, values_back, append_parts, length-values, length-append}
 use Rattle.qn_value.proofs.BlockSums.{sums_sector}
+use Rattle.qn_facts.proofs.Booleans.{same_tests}
 
 -- the blocks' tuples are the sectors that k gives
 abbrev have_sectors : List Blocked → List BlockValue → Assignment → Bool
@@ -204,14 +205,14 @@ module _ (par : ℤ → ℕ → Bool) (sectors : ℤ → List SectorValue) where
     -- where the blocks have the sectors of an assignment, these are the ones that they join to
     have_is : (bs : List BlockValue) (c : Assignment) → have_sectors ns bs c ≡ (have_sectors ns bs (joint bs) && agrees [] w c (joint bs))
     have_is bs c =
-        both_ways (have_sectors ns bs c) (have_sectors ns bs (joint bs) && agrees [] w c (joint bs))
+        same_tests (have_sectors ns bs c) (have_sectors ns bs (joint bs) && agrees [] w c (joint bs))
         (λ h. ap₂ ◌&&◌ (sym (have-agree ns bs c (joint bs) (have_to bs c h)) ∙ h) (agrees_from [] w c (joint bs) (λ e i o. have_to bs c h e i)))
         (λ h. let t = and_parts (have_sectors ns bs (joint bs)) (agrees [] w c (joint bs)) h in
         have-agree ns bs c (joint bs) (λ e i. agrees_to [] w c (joint bs) t.1 e i refl) ∙ t.0)
 
     -- the open lines have the sectors of the blocks
     open_is : (c k : Assignment) → agrees bonds w c k ≡ same_values (values opens c) (values opens k)
-    open_is c k = both_ways (agrees bonds w c k) (same_values (values opens c) (values opens k)) there back
+    open_is c k = same_tests (agrees bonds w c k) (same_values (values opens c) (values opens k)) there back
       where
         there : agrees bonds w c k ≡ true → same_values (values opens c) (values opens k) ≡ true
         there h =

@@ -18,7 +18,7 @@ use Rattle.qn_value.specs.Labels.{Placed, Slot, is_inward, is_positive, slots_of
 use Rattle.qn_value.specs.Local.{no_leg, is_coupled, couple_number, label_at, labels_of, with_labels, coupled, open_from, open_legs, AllTensors, IsCouple, IsCoupling}
 use Rattle.qn_value.proofs.NetLaws.{end_test}
 use Rattle.qn_value.proofs.CoupleLemmas.{couple_at, other, number_from, stands_in, couple_passes, one_couple, IsPartner, partner, open_before, count-cons, open_grows, open_found}
-use Rattle.qn_value.proofs.Values.{both_ways}
+use Rattle.qn_facts.proofs.Booleans.{same_tests}
 
 abbrev pub word_of : List TensorValue → List LegValue
 word_of ts = flat_map (λ t. t.legs) ts
@@ -210,7 +210,7 @@ module _ (ls : List LegValue) (cs : List (ℕ × ℕ)) (good : IsCoupling ls cs)
 
   paired : (l : ℤ) → is_positive l ≡ true → is_in same_end (record { label = l; inward = true }) all_ends ≡ is_in same_end (record { label = l; inward = false }) all_ends
   paired l p =
-      both_ways (is_in same_end (record { label = l; inward = true }) all_ends) (is_in same_end (record { label = l; inward = false }) all_ends) (across true) (across false)
+      same_tests (is_in same_end (record { label = l; inward = true }) all_ends) (is_in same_end (record { label = l; inward = false }) all_ends) (across true) (across false)
     where
       across : (b : Bool) → is_in same_end (record { label = l; inward = b }) all_ends ≡ true → is_in same_end (record { label = l; inward = not b }) all_ends ≡ true
       across b h = at (in_range end_at 0 count (record { label = l; inward = b }) h)

@@ -11,13 +11,8 @@ use Rattle.qn_value.specs.Labels.{IsUniform, AllPlaced, slots, node_of, bonds_of
 use Rattle.qn_value.specs.Local.{IsCouple, IsCoupling}
 use Rattle.qn_value.specs.TensorBlocks.{HasBlocks}
 use Rattle.qn_value.specs.Examples.{fermions, mode, single, diagonal, placed}
-use Rattle.qn_value.proofs.BlockRows.{all-nil, all-cons, block_tensor}
-
-one : {A : Type 0} (P : A → Type 0) (x : A) → P x → All P (x ∷ [])
-one P x p = all-cons P x [] p (all-nil P)
-
-two : {A : Type 0} (P : A → Type 0) (x y : A) → P x → P y → All P (x ∷ y ∷ [])
-two P x y p q = all-cons P x (y ∷ []) p (one P y q)
+use Rattle.qn_value.proofs.BlockRows.{block_tensor}
+use Rattle.qn_facts.proofs.Lists.{all_two, all_one}
 
 abbrev even : SectorValue
 even = record { charge = pos 0 ∷ []; dim = 1 }
@@ -29,12 +24,12 @@ sound : (d : Dir) → IsSound (mode d)
 sound d = record {
   some = omega arith;
   few = omega arith;
-  dims = two HasDim even odd (omega arith, omega arith) (omega arith, omega arith);
+  dims = all_two HasDim even odd (omega arith, omega arith) (omega arith, omega arith);
   bound = omega arith;
 }
 
 of_group : (d : Dir) → IsLegOf fermions (mode d)
-of_group d = two (IsOf fermions) even odd (record { canonical = (tt, refl); within = (omega arith, tt) }) (record { canonical = (tt, refl); within = (omega arith, tt) })
+of_group d = all_two (IsOf fermions) even odd (record { canonical = (tt, refl); within = (omega arith, tt) }) (record { canonical = (tt, refl); within = (omega arith, tt) })
 
 abbrev legs : List LegValue
 legs = mode In ∷ mode Out ∷ []
@@ -50,7 +45,7 @@ second = single (1 ∷ 1 ∷ []) 3
 
 blocks : All (IsBlock fermions legs flux) (first ∷ second ∷ [])
 blocks =
-    two (IsBlock fermions legs flux) first second
+    all_two (IsBlock fermions legs flux) first second
     (record { tuple = (omega arith, (omega arith, refl)); flux = refl; full = refl; small = omega arith })
     (record { tuple = (omega arith, (omega arith, refl)); flux = refl; full = refl; small = omega arith })
 
@@ -70,8 +65,8 @@ is_tensor =
     let r = block_tensor fermions legs flux (first ∷ second ∷ []) blocks ascending in
     record {
       group = (tt, tt);
-      legs = two IsSound (mode In) (mode Out) (sound In) (sound Out);
-      charges = two (IsLegOf fermions) (mode In) (mode Out) (of_group In) (of_group Out);
+      legs = all_two IsSound (mode In) (mode Out) (sound In) (sound Out);
+      charges = all_two (IsLegOf fermions) (mode In) (mode Out) (of_group In) (of_group Out);
       flux = (tt, refl);
       rows = r.0;
       distinct = r.1;
@@ -81,7 +76,7 @@ apart : In ≢ Out
 apart e = absurd (cc e)
 
 pub is_coupling : IsCoupling legs ((0, 1) ∷ [])
-is_coupling = record { meet = one (IsCouple legs) (0, 1) (record { first = omega arith; second = omega arith; meets = (apart, refl) }); distinct = (refl, (refl, tt)) }
+is_coupling = record { meet = all_one (IsCouple legs) (0, 1) (record { first = omega arith; second = omega arith; meets = (apart, refl) }); distinct = (refl, (refl, tt)) }
 
 pub is_placed : AllPlaced fermions (placed (diagonal In Out) (pos 1 ∷ pos 1 ∷ []) ∷ [])
 is_placed = (record { group = refl; tensor = is_tensor; labels = refl }, tt)

@@ -4,7 +4,6 @@ use Rattle.std.proofs.lemmas.Bool.{and_parts, or_cases, or_from, or_left, or_rig
 use Rattle.std.specs.Prelude.{int_lt}
 use Rattle.qn_sign.specs.Sign.{is_in, IsDistinct, Perm}
 use Rattle.qn_sign.specs.Sign.Perm.{none, keep, swap, then_by}
-use Rattle.qn_value.proofs.Values.{both_ways}
 use Rattle.qn_value.specs.Networks.{End, Bond, same_end, word, pairs_of, goal, labels, IsNetwork}
 use Rattle.qn_value.specs.Labels.{Placed, Slot, slots_of, slots, ends, node_of, is_positive, bond_at, bonds_from, place_bond, in_label_order, bonds_of, open_end, opens_of, IsWellLabelled}
 use Rattle.qn_sign.proofs.Parity.{perm-refl, perm-sym}
@@ -12,6 +11,7 @@ use Rattle.qn_sign.proofs.Order.{is_in-append, is_in-perm, distinct-perm}
 use Rattle.qn_sign.proofs.Members.{perm_from_members}
 use Rattle.qn_value.proofs.Sums.{label_test, perm-map}
 use Rattle.qn_value.proofs.NetLaws.{end_test, ends-labels}
+use Rattle.qn_facts.proofs.Booleans.{same_tests}
 
 abbrev in_end : ℤ → End
 in_end l = record { label = l; inward = true }
@@ -233,7 +233,7 @@ module _ (tw : List ℤ) (ss : List Slot) (n : ℕ) (w : IsWellLabelled (ends ss
   pub goal_perm : Perm es (goal (bonds_of tw ss) (opens_of es n))
   goal_perm =
       perm_from_members same_end end_test es (goal (bonds_of tw ss) (opens_of es n)) w.distinct goal_distinct
-      (λ e. both_ways (is_in same_end e es) (is_in same_end e (goal (bonds_of tw ss) (opens_of es n))) (to_goal e) (from_goal e))
+      (λ e. same_tests (is_in same_end e es) (is_in same_end e (goal (bonds_of tw ss) (opens_of es n))) (to_goal e) (from_goal e))
 
 pub plain_network : (ps : List Placed) (tw : List ℤ) (n : ℕ) → IsWellLabelled (ends (slots ps)) n →
     IsNetwork (map node_of ps) (bonds_of tw (slots ps)) (opens_of (ends (slots ps)) n)

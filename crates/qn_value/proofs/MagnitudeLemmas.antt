@@ -2,9 +2,8 @@
 use Rattle.std.proofs.Common.{◌≡◌, ◌≤◌, ℕ, zero, suc, ◌+◌, ◌*◌, ◌==◌, ℤ, Bool, true, false, cond, None, List, [], ◌∷◌, ◌++◌, refl, sym, ◌∙◌, ap, ap₂, subst, filter, ◌⊎◌, inl, inr, eqb-true, eq-eqb, arith, int_eq}
 use Rattle.std.proofs.lemmas.Bool.{or_left, or_right, false≢true}
 use Rattle.qn_sign.specs.Sign.{is_in, IsDistinct}
-use Rattle.std.proofs.lemmas.Int.{ints}
 use Rattle.std.proofs.Math.Nat.{mul-le-mul_left}
-use Rattle.qn_gauss.specs.Gaussian.{Gaussian, zero_g, one_g, add_g, mul_g, neg_g, signed, mag}
+use Rattle.qn_gauss.specs.Gaussian.{Gaussian, zero_g, one_g, add_g, mul_g, signed, mag}
 use Rattle.qn_gauss.proofs.Size.{mag-mul, mag-add}
 use Rattle.qn_charge.specs.declared.factor.Factor.{Factor}
 use Rattle.qn_charge.specs.Charges.{IsGroup, sum_charge}
@@ -14,10 +13,12 @@ use Rattle.qn_value.specs.Fluxes.{Charges, net_at, AllConserve, sum_flux}
 use Rattle.qn_value.specs.Magnitudes.{total_below, total, mag_at, magnitudes, passing_offset, place_or, first_passing, IsAt}
 use Rattle.qn_value.proofs.Sums.{label_test, Meets, assign_both}
 use Rattle.qn_value.proofs.FluxLemmas.{net-append, net-depends, open_from_word, open_label}
+use Rattle.qn_gauss.proofs.Signs.{mag_signed}
+pub use Rattle.qn_gauss.proofs.Signs.{mag_signed}
 
 -- sums of zeros
 
-below_zero : (n : ℕ) (f : ℕ → ℕ) → ((v : ℕ) → f v ≡ 0) → total_below n f ≡ 0
+pub below_zero : (n : ℕ) (f : ℕ → ℕ) → ((v : ℕ) → f v ≡ 0) → total_below n f ≡ 0
 below_zero zero f h = refl
 below_zero (suc n) f h = ap₂ ◌+◌ (below_zero n f h) (h n)
 
@@ -136,11 +137,6 @@ single (b ∷ bs) f k bound a d h z =
     stays g i true e c u = absurd (false≢true (sym d.0 ∙ subst (λ l. is_in int_eq l (labels bs) ≡ true) (sym (label_test.equal b.label g.label e)) i))
 
 -- the value is no larger than the sum of magnitudes
-
-pub mag_signed : (b : Bool) (x : Gaussian) → mag (signed b x) ≡ mag x
-unfolding neg_g
-mag_signed true x = omega (arith, ints)
-mag_signed false x = refl
 
 mag_one : mag one_g ≡ 1
 unfolding one_g

@@ -47,7 +47,7 @@ total_below-split n (suc m) f =
     group : (x y z : ℕ) → (x + y) + z ≡ x + (y + z)
     group x y z = omega arith
 
-total_below-congr : (n : ℕ) (f g : ℕ → ℕ) → ((v : ℕ) → v < n → f v ≡ g v) → total_below n f ≡ total_below n g
+pub total_below-congr : (n : ℕ) (f g : ℕ → ℕ) → ((v : ℕ) → v < n → f v ≡ g v) → total_below n f ≡ total_below n g
 total_below-congr zero f g h = refl
 total_below-congr (suc n) f g h = ap₂ ◌+◌ (total_below-congr n f g (λ v l. h v (omega arith))) (h n (omega arith))
 

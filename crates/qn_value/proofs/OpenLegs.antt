@@ -29,16 +29,8 @@ use Rattle.qn_value.proofs.MagnitudeLemmas.{silent}
 use Rattle.qn_value.proofs.PlacedLemmas.{HaveSectorsOn, sectors_fit, all_conserve, arrow_back}
 use Rattle.qn_value.proofs.CoupleLemmas.{open_before, open_step, open_grows}
 use Rattle.qn_value.proofs.CoupledLemmas.{word_of, leg_at, slot_at, slots_coupled, open_label, end_at, all_ends, there, open_once, open_length, coupled_law}
-
-pub range-last : (a n : ℕ) → range_with_len a (suc n) ≡ range_with_len a n ++ (a + n) ∷ []
-range-last a zero = ap (λ k. k ∷ []) plain
-  where
-    plain : a ≡ a + 0
-    plain = omega arith
-range-last a (suc n) = ap (λ ks. a ∷ ks) (range-last (a + 1) n ∙ ap (λ k. range_with_len (a + 1) n ++ k ∷ []) next)
-  where
-    next : a + 1 + n ≡ a + suc n
-    next = omega arith
+use Rattle.qn_facts.proofs.Lists.{range_last}
+pub use Rattle.qn_facts.proofs.Lists.{range_last as range-last}
 
 -- the places of the open legs among the first n
 abbrev pub open_places : List (ℕ × ℕ) → ℕ → List ℕ
@@ -46,7 +38,7 @@ open_places cs n = filter (λ j. not (is_coupled cs j)) (positions n)
 
 places_step : (cs : List (ℕ × ℕ)) (n : ℕ) → open_places cs (suc n) ≡ open_places cs n ++ cond (is_coupled cs n) [] (n ∷ [])
 places_step cs n =
-    ap (filter (λ j. not (is_coupled cs j))) (range-last 0 n)
+    ap (filter (λ j. not (is_coupled cs j))) (range_last 0 n)
     ∙ filter-append (λ j. not (is_coupled cs j)) (positions n) ((0 + n) ∷ [])
     ∙ ap (λ k. open_places cs n ++ filter (λ j. not (is_coupled cs j)) (k ∷ [])) (zero-add n)
     ∙ ap (λ ks. open_places cs n ++ ks) (turn (is_coupled cs n))

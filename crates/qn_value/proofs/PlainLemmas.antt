@@ -1,18 +1,17 @@
 -- One step of the plain program's recursions.
-use Rattle.std.proofs.Common.{◌≡◌, ◌≢◌, ◌≤◌, ◌<◌, ℕ, ◌+◌, ◌*◌, Bool, true, false, add-one, ◌&&◌, not, List, ◌∷◌, refl, sym, ◌∙◌, ap, ap₂, subst, map, count_by, arith}
+use Rattle.std.proofs.Common.{◌≡◌, ◌≢◌, ◌≤◌, ◌<◌, ℕ, ◌+◌, ◌*◌, Bool, ◌&&◌, not, List, ◌∷◌, refl, sym, ◌∙◌, ap, ap₂, subst, map, count_by, arith}
 use mathlib.Core.Bool.{beq}
-use Rattle.std.proofs.lemmas.Bool.{false≢true}
 use Rattle.qn_sign.specs.Sign.{exchanges, exchange_sign, stands_before, is_odd, xor}
-use Rattle.qn_gauss.specs.Gaussian.{Gaussian, zero_g, one_g, add_g, mul_g, neg_g, signed, mag, limit}
-use Rattle.qn_value.specs.Networks.{End, Node, Bond, Assignment, Parities, same_end, word, goal, odd_end, twist_sign, sign, values, product, sum_below, flat, at_values}
+use Rattle.qn_gauss.specs.Gaussian.{Gaussian, zero_g, one_g, mul_g, signed, mag, limit}
+use Rattle.qn_value.specs.Networks.{End, Node, Bond, Assignment, Parities, word, goal, sign, values, product, sum_below, flat, at_values}
 use Rattle.qn_value.specs.Tensors.{entry_at}
 use Rattle.qn_value.specs.Magnitudes.{total_below, total, magnitudes}
 use Rattle.qn_value.specs.Numbering.{RowsValue, rows_node, summands, numbered}
 use Rattle.qn_sign.proofs.Parity.{is_odd-add}
 use Rattle.qn_value.proofs.RowsLemmas.{zero_mul}
 use Rattle.std.proofs.Math.Nat.{mul-le-mul_left}
-use Rattle.qn_value.proofs.MagnitudeLemmas.{mag_zero, mag_signed}
-use Rattle.qn_gauss.proofs.Size.{mag-mul, mag-add}
+use Rattle.qn_value.proofs.MagnitudeLemmas.{mag_zero}
+use Rattle.qn_gauss.proofs.Size.{mag-mul}
 use Rattle.qn_value.proofs.NumberingLemmas.{mag_some, rest_passes, sums_numbered, total_numbered, total_grows}
 use Rattle.qn_charge.proofs.Parts.{xor_is}
 
@@ -45,18 +44,6 @@ magnitude_passes t ts all c x e f n l =
     subst (λ (us : List RowsValue). limit < magnitudes (map rows_node us) c) (sym e)
     (subst (λ y. limit < mag y * magnitudes (map rows_node ts) c) f (rest_passes (mag x) (magnitudes (map rows_node ts) c) (mag_some x n) l))
 
--- the product is in range where that of the magnitudes is
-pub times_fits : (x y : Gaussian) (m s : ℕ) → m ≡ mag x → mag y ≤ s → (limit < m * s → ⊥) → mag x * mag y ≤ limit
-times_fits x y m s e small n =
-    let less : mag x * mag y ≤ mag x * s = mul-le-mul_left (mag x) small in
-    subst (λ k. k * s ≤ limit → mag x * mag y ≤ limit) (sym e) (λ q. through (mag x * mag y) (mag x * s) limit less q) (within (m * s) n)
-  where
-    within : (k : ℕ) → (limit < k → ⊥) → k ≤ limit
-    within k n = omega (arith, n)
-
-    through : (a b d : ℕ) → a ≤ b → b ≤ d → a ≤ d
-    through a b d p q = omega (arith, p, q)
-
 pub times_within : (x y z : Gaussian) (s k : ℕ) → z ≡ mul_g x y → k ≡ mag x * s → mag y ≤ s → mag z ≤ k
 times_within x y z s k e f small =
     let less : mag x * mag y ≤ mag x * s = mul-le-mul_left (mag x) small in
@@ -78,22 +65,6 @@ zero_within x e = subst (λ y. mag y ≤ 0) (sym e) (omega (arith, mag_zero))
 abbrev pub nodes_of : List RowsValue → List Node
 nodes_of ts = map rows_node ts
 
-pub summand_is : (par : Parities) (ns : List Node) (bs : List Bond) (opens legs order : List End) (c : Assignment) (t o : Bool) → legs ≡ word ns → order ≡ goal bs opens →
-    t ≡ twist_sign par bs c → o ≡ exchange_sign same_end (odd_end par c) legs order → not (beq t o) ≡ sign par ns bs opens c
-summand_is par ns bs opens legs order c t o e f g h =
-    xor_is t o ∙ ap₂ xor g (h ∙ ap₂ (exchange_sign same_end (odd_end par c)) e f)
-
-pub signed_true : (b : Bool) (x y : Gaussian) → b ≡ true → y ≡ neg_g x → y ≡ signed b x
-signed_true true x y e f = f
-signed_true false x y e f = absurd (false≢true e)
-
-pub signed_false : (b : Bool) (x y : Gaussian) → b ≡ false → y ≡ x → y ≡ signed b x
-signed_false true x y e f = absurd (false≢true (sym e))
-signed_false false x y e f = f
-
-pub signed_within : (b : Bool) (x y : Gaussian) (m : ℕ) → y ≡ signed b x → mag x ≤ m → mag y ≤ m
-signed_within b x y m e l = subst (λ z. mag z ≤ m) (sym e) (subst (λ k. k ≤ m) (sym (mag_signed b x)) l)
-
 -- the sum of the first summands, and the sum of their magnitudes
 
 abbrev pub summand_at : Parities → List RowsValue → List Bond → List End → List ℕ → ℕ → Gaussian
@@ -112,19 +83,6 @@ pub record IsSum (par : Parities) (ts : List RowsValue) (bs : List Bond) (opens 
 
 pub sum_first : (par : Parities) (ts : List RowsValue) (bs : List Bond) (opens : List End) (xs : List ℕ) (z : Gaussian) → z ≡ zero_g → IsSum par ts bs opens xs 0 z 0
 sum_first par ts bs opens xs z e = record { value = e; magnitude = refl; within = zero_within z e; bound = omega arith }
-
-pub sum_more : (par : Parities) (ts : List RowsValue) (bs : List Bond) (opens : List End) (xs : List ℕ) (n : ℕ) (sum term next : Gaussian) (size more all : ℕ) →
-    IsSum par ts bs opens xs n sum size → term ≡ summand_at par ts bs opens xs n → more ≡ magnitude_at ts bs opens xs n → mag term ≤ more →
-    next ≡ add_g sum term → all ≡ size + more → all ≤ limit → IsSum par ts bs opens xs (n + 1) next all
-sum_more par ts bs opens xs n sum term next size more all h e f l g k b =
-    subst (λ m. IsSum par ts bs opens xs m next all) (sym (add-one n)) (record {
-      value = g ∙ ap₂ add_g h.value e;
-      magnitude = k ∙ ap₂ ◌+◌ h.magnitude f;
-      within =
-          let first : mag (add_g sum term) ≤ mag sum + mag term = mag-add sum term in
-          subst (λ y. mag y ≤ all) (sym g) (omega (arith, first, h.within, l, k));
-      bound = b;
-    })
 
 -- a summand or a sum that is too large
 pub too_large : (par : Parities) (ts : List RowsValue) (bs : List Bond) (opens : List End) (xs : List ℕ) (n count size : ℕ) (sum : Gaussian) →

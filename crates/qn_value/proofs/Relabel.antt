@@ -1,10 +1,9 @@
 use Rattle.std.proofs.lemmas.List.{map-append}
-use Rattle.std.proofs.Common.{◌≡◌, ℕ, ℤ, Bool, true, false, not, ◌&&◌, ◌||◌, cond, List, [], ◌∷◌, ◌++◌, refl, sym, ◌∙◌, ap, ap₂, subst, map, int_eq}
+use Rattle.std.proofs.Common.{◌≡◌, ℕ, ℤ, Bool, true, false, ◌&&◌, ◌||◌, cond, List, [], ◌∷◌, ◌++◌, refl, sym, ◌∙◌, ap, ap₂, subst, map, int_eq}
 use mathlib.Core.Path.{fun_ext}
 use Rattle.std.proofs.lemmas.Bool.{and_parts, or_from, or_left, or_right, false≢true}
-use Rattle.qn_sign.specs.Sign.{is_in, stands_before, xor, IsTest}
+use Rattle.qn_sign.specs.Sign.{is_in, xor}
 use Rattle.qn_gauss.specs.Gaussian.{Gaussian, mul_g, signed}
-use Rattle.qn_value.proofs.Values.{both_ways}
 use Rattle.qn_value.specs.Networks.{End, Node, Bond, Assignment, assign, in_end, out_end, sum_below, sums, same_end, word, pairs_of, goal, odd_end, order_sign, twist_sign, sign, values, product, at_values, contract, IsNetwork, labels, relabel, relabel_node, relabel_bond, KeepsApart}
 use Rattle.qn_sign.proofs.Order.{is_in-append, is_in-perm}
 use Rattle.qn_sign.proofs.Parity.{tally, pairs}
@@ -12,6 +11,7 @@ use Rattle.qn_sign.proofs.SignLaws.{turned, pairs-same}
 use Rattle.qn_value.proofs.Sums.{label_test}
 use Rattle.qn_value.proofs.NetLaws.{end_test, sign-pairs}
 use Rattle.qn_sign.proofs.Order.{before-map}
+use Rattle.qn_facts.proofs.Booleans.{same_tests}
 
 tally-map : {A B : Type 0} (f : A → B) (p : B → Bool) (xs : List A) → tally p (map f xs) ≡ tally (λ x. p (f x)) xs
 tally-map f p [] = refl
@@ -68,14 +68,14 @@ module _ (f : ℤ → ℤ) (par : ℤ → ℕ → Bool) (ns : List Node) (bs : L
 
   same_relabel : (x y : End) → is_in same_end x (word ns) ≡ true → is_in same_end y (word ns) ≡ true → same_end (relabel f x) (relabel f y) ≡ same_end x y
   same_relabel x y h k =
-      both_ways (same_end (relabel f x) (relabel f y)) (same_end x y) (one_image f (word ns) apart x y h k)
+      same_tests (same_end (relabel f x) (relabel f y)) (same_end x y) (one_image f (word ns) apart x y h k)
       (λ e. subst (λ w. same_end (relabel f x) (relabel f w) ≡ true) (end_test.equal x y e) (end_test.itself (relabel f x)))
 
   -- the label of a bond stays different from others
   label_apart : (x : End) (b : Bond) → is_in same_end x (word ns) ≡ true → is_in same_end (in_end b) (word ns) ≡ true → is_in same_end (out_end b) (word ns) ≡ true →
       int_eq (f x.label) (f b.label) ≡ int_eq x.label b.label
   label_apart x b h i o =
-      both_ways (int_eq (f x.label) (f b.label)) (int_eq x.label b.label) (there x.label x.inward h)
+      same_tests (int_eq (f x.label) (f b.label)) (int_eq x.label b.label) (there x.label x.inward h)
       (λ e. subst (λ l. int_eq (f x.label) (f l) ≡ true) (label_test.equal x.label b.label e) (label_test.itself (f x.label)))
     where
       there : (l : ℤ) (w : Bool) → is_in same_end (record { label = l; inward = w }) (word ns) ≡ true → int_eq (f l) (f b.label) ≡ true → int_eq l b.label ≡ true

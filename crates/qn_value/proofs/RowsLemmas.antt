@@ -2,19 +2,20 @@ use Rattle.std.proofs.Common.{◌≡◌, ℕ, zero, suc, ◌<◌, ◌≤◌, ◌
 use mathlib.Core.Path.{fun_ext}
 use Rattle.std.proofs.lemmas.Bool.{and_parts, or_parts, or_from, or_left, or_right, or_cases, false≢true}
 use Rattle.qn_sign.specs.Sign.{is_in, IsDistinct, Perm}
-use Rattle.qn_gauss.specs.Gaussian.{Gaussian, zero_g, one_g, add_g, mul_g, signed, neg_g}
+use Rattle.qn_gauss.specs.Gaussian.{Gaussian, zero_g, add_g, mul_g, signed}
 use Rattle.qn_value.specs.Networks.{End, Node, Bond, Assignment, assign, in_end, out_end, sum_below, sums, same_end, word, pairs_of, goal, sign, values, product, at_values, contract, IsNetwork, labels}
 use Rattle.qn_value.specs.Tensors.{Row, same_values, entry_at, IsNew, AreDistinct}
 use Rattle.qn_value.specs.Rows.{sum_over, when, meet_on, joined, meet, AreBelow, AllBelow, HaveDims}
-use Rattle.qn_gauss.proofs.Ring.{add_comm, add_zero, mul_comm, mul_one, mul_zero, mul_add, mul_neg}
+use Rattle.qn_gauss.proofs.Ring.{add_zero, mul_one, mul_zero, mul_add}
 use Rattle.qn_sign.proofs.Order.{apart_by, is_in-append, is_in-perm, distinct-perm, distinct_first, distinct_second, distinct_parts_back}
 use Rattle.qn_value.proofs.Sums.{label_test, sum_below-add, sum_below-zero, DependsOn}
 use Rattle.qn_value.proofs.NetLaws.{end_test, signed-zero, sign-agree, ends-labels, at_values-values, values-agree, labels_distinct}
-use Rattle.qn_value.proofs.Values.{both_ways, same_values-equal}
+use Rattle.qn_value.proofs.Values.{same_values-equal}
 pub use Rattle.qn_gauss.proofs.Ring.{zero_add}
 pub use Rattle.qn_gauss.proofs.Ring.{zero_mul}
 pub use Rattle.qn_gauss.proofs.Ring.{mul_add_right}
 pub use Rattle.qn_gauss.proofs.Signs.{signed-add}
+use Rattle.qn_facts.proofs.Booleans.{same_tests}
 
 -- sums over lists
 
@@ -126,7 +127,7 @@ pub agrees_more : (b : Bond) (bs : List Bond) (es : List End) (a k : Assignment)
     is_in same_end (in_end b) es ≡ true → is_in same_end (out_end b) es ≡ true →
     agrees bs es (assign a b.label v) k ≡ ((v == k (in_end b)) && ((v == k (out_end b)) && agrees (b ∷ bs) es a k))
 agrees_more b bs es a k v apart inside outside =
-    both_ways (agrees bs es (assign a b.label v) k) ((v == k (in_end b)) && ((v == k (out_end b)) && agrees (b ∷ bs) es a k)) there back
+    same_tests (agrees bs es (assign a b.label v) k) ((v == k (in_end b)) && ((v == k (out_end b)) && agrees (b ∷ bs) es a k)) there back
   where
     at_bond : (x : ℕ) → cond (int_eq b.label b.label) v x ≡ v
     at_bond x = ap (λ c. cond c v x) (label_test.itself b.label)
@@ -288,7 +289,7 @@ module _ (par : ℤ → ℕ → Bool) (dims : ℤ → ℕ) (es fs : List End) (r
   -- where they give values at all, these are the ones that they join to
   chosen_is : (r s : Row) (c : Assignment) → chosen r s c ≡ (chosen r s (joined es fs r s) && agrees [] (es ++ fs) c (joined es fs r s))
   chosen_is r s c =
-      both_ways (chosen r s c) (chosen r s (joined es fs r s) && agrees [] (es ++ fs) c (joined es fs r s))
+      same_tests (chosen r s c) (chosen r s (joined es fs r s) && agrees [] (es ++ fs) c (joined es fs r s))
       (λ h. ap₂ ◌&&◌ (sym (same_choice (chosen_to r s c h)) ∙ h) (agrees_from [] (es ++ fs) c (joined es fs r s) (λ e i o. chosen_to r s c h e i)))
       (λ h. let t = and_parts (chosen r s (joined es fs r s)) (agrees [] (es ++ fs) c (joined es fs r s)) h in
       same_choice (λ e i. agrees_to [] (es ++ fs) c (joined es fs r s) t.1 e i refl) ∙ t.0)
@@ -318,7 +319,7 @@ module _ (par : ℤ → ℕ → Bool) (dims : ℤ → ℕ) (es fs : List End) (r
 
     -- the open lines have the values xs exactly where the rows leave these
     open_is : (k : Assignment) → agrees bonds (es ++ fs) (at_values opens xs) k ≡ same_values xs (values opens k)
-    open_is k = both_ways (agrees bonds (es ++ fs) (at_values opens xs) k) (same_values xs (values opens k)) there back
+    open_is k = same_tests (agrees bonds (es ++ fs) (at_values opens xs) k) (same_values xs (values opens k)) there back
       where
         there : agrees bonds (es ++ fs) (at_values opens xs) k ≡ true → same_values xs (values opens k) ≡ true
         there h =

@@ -1,5 +1,5 @@
 -- Contractions of tensors block by block.
-use Rattle.std.proofs.Common.{◌≡◌, ◌≢◌, ℕ, ◌+◌, ◌/◌, ◌%◌, ℤ, Bool, true, false, ◌&&◌, cond, List, [], ◌∷◌, ◌++◌, refl, sym, ◌∙◌, ap, ap₂, subst, map, length, take, drop, append-nil, arith, int_lt}
+use Rattle.std.proofs.Common.{◌≡◌, ◌≢◌, ℕ, suc, ◌+◌, ◌/◌, ◌%◌, ℤ, Bool, true, false, ◌&&◌, cond, List, [], ◌∷◌, ◌++◌, refl, sym, ◌∙◌, ap, ap₂, subst, map, length, take, drop, append-nil, arith, int_lt}
 use Rattle.std.specs.List.{All}
 use Rattle.std.proofs.lemmas.Bool.{false_from_ne_true}
 use Rattle.qn_gauss.specs.Gaussian.{mul_g, signed}
@@ -41,7 +41,7 @@ values_by_inner (l ∷ ls) (s ∷ t) n = ap (λ vs. (before l.sectors s + n / bl
 
 -- the blocks of a tensor
 
-tuples_there : (fs : List Factor) (ls : List LegValue) (q : List ℤ) (bs : List BlockValue) → All (IsBlock fs ls q) bs → HaveTuples ls bs
+pub tuples_there : (fs : List Factor) (ls : List LegValue) (q : List ℤ) (bs : List BlockValue) → All (IsBlock fs ls q) bs → HaveTuples ls bs
 tuples_there fs ls q [] h = tt
 tuples_there fs ls q (b ∷ bs) h = ((all_first (IsBlock fs ls q) b bs h).tuple, tuples_there fs ls q bs (all_others (IsBlock fs ls q) b bs h))
 
@@ -52,7 +52,7 @@ new_tuple b (c ∷ cs) h = (
   new_tuple b cs (all_others (λ (d : BlockValue). b.tuple ≢ d.tuple) c cs h),
 )
 
-blocks_distinct : (bs : List BlockValue) → AreAscending bs → AreDistinctBlocks bs
+pub blocks_distinct : (bs : List BlockValue) → AreAscending bs → AreDistinctBlocks bs
 blocks_distinct [] h = tt
 blocks_distinct (b ∷ bs) h = (new_tuple b bs (others_differ b bs h), blocks_distinct bs (ascending_rest b bs h))
 
@@ -180,3 +180,9 @@ trace_blocks a firsts cs t n ha good tuple below =
     when (meet_on bonds k && same_values t (values opens k))
     (signed (sign (sector_parity a.group sectors) (map node_of ps) bonds opens k)
     (sums (bonds_in sectors k bonds) (λ o. inside (legs_are sectors pa firsts ha long.0 fa i) x (values (node_of pa).ends o)) (at_values opens os)))))
+
+-- one value for each leg
+pub values_long : (ls : List LegValue) (t : List ℕ) (n : ℕ) → IsTuple ls t → length (values_at ls t n) ≡ length ls
+values_long [] t n h = refl
+values_long (l ∷ ls) [] n h = absurd h
+values_long (l ∷ ls) (s ∷ ss) n h = ap suc (values_long ls ss (n % block_size ls ss) h.1)

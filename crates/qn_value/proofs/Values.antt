@@ -1,7 +1,8 @@
 -- Lists of values.
-use Rattle.std.proofs.Common.{◌≡◌, ℕ, ◌==◌, Bool, true, false, List, [], ◌∷◌, refl, sym, ap₂, eqb-true}
+use Rattle.std.proofs.Common.{◌≡◌, ℕ, ◌==◌, true, List, [], ◌∷◌, refl, ap₂, eqb-true}
 use Rattle.std.proofs.lemmas.Bool.{and_parts, false≢true}
 use Rattle.qn_value.specs.Tensors.{same_values}
+pub use Rattle.qn_facts.proofs.Booleans.{same_tests as both_ways}
 
 pub same_values-equal : (xs ys : List ℕ) → same_values xs ys ≡ true → xs ≡ ys
 same_values-equal [] [] e = refl
@@ -10,9 +11,3 @@ same_values-equal (x ∷ xs) [] e = absurd (false≢true e)
 same_values-equal (x ∷ xs) (y ∷ ys) e =
     let p = and_parts (x == y) (same_values xs ys) e in
     ap₂ ◌∷◌ (eqb-true x y p.0) (same_values-equal xs ys p.1)
-
--- two truth values that follow from each other
-pub both_ways : (a b : Bool) → (a ≡ true → b ≡ true) → (b ≡ true → a ≡ true) → a ≡ b
-both_ways true b f g = sym (f refl)
-both_ways false true f g = g refl
-both_ways false false f g = refl

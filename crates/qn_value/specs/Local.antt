@@ -3,7 +3,7 @@
 use Rattle.std.specs.Prelude.{◌≡◌, ◌<◌, None, ℕ, suc, ◌+◌, ◌==◌, ℤ, pos, negsuc, Bool, ◌&&◌, ◌||◌, not, cond, List, [], ◌∷◌, length, map, take, drop, count_by, slice_index_or}
 use Rattle.std.specs.List.{All, flat_map}
 use Rattle.qn_sign.specs.Positions.{positions, is_odd_at}
-use Rattle.qn_sign.specs.Sign.{is_in, exchange_sign, block_parity, IsDistinct}
+use Rattle.qn_sign.specs.Sign.{is_in, exchange_sign, IsDistinct}
 use Rattle.qn_index.specs.Legs.{parity_at}
 use Rattle.qn_gauss.specs.Gaussian.{Gaussian, signed}
 use Rattle.qn_charge.specs.declared.factor.Factor.{Factor}
@@ -118,13 +118,6 @@ pub record Pairwise (a b : TensorValue) (shared : List (ℕ × ℕ)) (between : 
   pub legs : r.legs ≡ open_legs (a ∷ b ∷ []) (shared_couples a shared)
   pub flux : r.flux ≡ sum_charge a.group a.flux b.flux
   pub entries : (xs : List ℕ) → IsValues r.legs xs → entry_of r xs ≡ pair_entry a b shared between xs
-
--- r is t, times -1 where an odd number of the legs at these places have odd values
-pub record Twisted (t : TensorValue) (places : List ℕ) (r : TensorValue) : Type 0 where
-  pub group : r.group ≡ t.group
-  pub legs : r.legs ≡ t.legs
-  pub flux : r.flux ≡ t.flux
-  pub entries : (xs : List ℕ) → IsValues t.legs xs → entry_of r xs ≡ signed (block_parity (is_odd_at (parities t.group t.legs xs)) places) (entry_of t xs)
 
 -- the tensors are tensors over this group
 abbrev pub AllTensors : List Factor → List TensorValue → Type 0

@@ -79,15 +79,6 @@ block_at entry ls t = record { tuple = t; entries = map (λ o. entry (values_at 
 abbrev pub all_blocks : (List ℕ → Gaussian) → List LegValue → List (List ℕ) → List BlockValue
 all_blocks entry ls ts = map (block_at entry ls) ts
 
-abbrev pub number_or : ℕ → Option ℕ → Option ℕ → Option ℕ
-number_or n None m = m
-number_or n (Some o) m = Some n
-
--- the number, counted from n, of the first task whose block has a passing place
-abbrev pub first_task : (List ℕ → ℕ) → List LegValue → ℕ → List (List ℕ) → Option ℕ
-first_task size ls n [] = None
-first_task size ls n (t ∷ ts) = number_or n (passing_offset size ls t) (first_task size ls (suc n) ts)
-
 -- the values that k gives to the bonds
 abbrev pub IsAt : Assignment → List Bond → Assignment → Type 0
 IsAt k [] c = Unit {0}

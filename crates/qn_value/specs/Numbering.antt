@@ -1,8 +1,7 @@
 -- The values of the bonds of a network, numbered from 0: the last bond changes fastest.
-use Rattle.std.specs.Prelude.{◌≡◌, ◌<◌, ℕ, ◌*◌, ◌/◌, ◌%◌, ◌^◌, ℤ, Bool, false, List, [], ◌∷◌, cond, slice_index_or}
+use Rattle.std.specs.Prelude.{◌<◌, ℕ, ◌*◌, ◌/◌, ◌%◌, ◌^◌, ℤ, Bool, false, List, [], ◌∷◌, cond, slice_index_or}
 use Rattle.std.specs.Ordering.{int_eq}
-use Rattle.qn_gauss.specs.Gaussian.{Gaussian}
-use Rattle.qn_value.specs.Networks.{End, Node, Bond, Assignment, Parities, at_values, sum_below, sums}
+use Rattle.qn_value.specs.Networks.{End, Node, Bond, Assignment, Parities, at_values}
 use Rattle.qn_value.specs.Tensors.{Row, entry_at}
 
 -- the number of summands
@@ -18,10 +17,6 @@ value_in (b ∷ bs) n x e = value_in bs (n % summands bs) (cond (int_eq e.label 
 -- the assignment of the n-th summand
 abbrev pub numbered : List Bond → ℕ → Assignment → Assignment
 numbered bs n a e = value_in bs n (a e) e
-
--- a sum over the values of the bonds is the sum over the numbers of the summands
-abbrev pub NumberingLaw : Type 0
-NumberingLaw = (bs : List Bond) (f : Assignment → Gaussian) (a : Assignment) → sums bs f a ≡ sum_below (summands bs) (λ n. f (numbered bs n a))
 
 -- the parities of the values of a line
 pub record LineValue : Type 0 where

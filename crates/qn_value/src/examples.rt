@@ -20,14 +20,19 @@ pub fn worked_examples()
     ensures twisted_trace { value_of fermions (placed (diagonal In Out) (pos 1 ∷ pos 1 ∷ []) ∷ []) (pos 1 ∷ []) 0 [] ≡ neg_g (whole 1) }
     ensures twisted_supertrace { value_of fermions (placed (diagonal Out In) (pos 1 ∷ pos 1 ∷ []) ∷ []) (pos 1 ∷ []) 0 [] ≡ whole 5 }
     // two odd tensors: the sign depends on their order in the list
-    ensures created_first { value_of fermions (placed (created 2) (pos 1 ∷ []) ∷ placed (taken 3) (pos 1 ∷ []) ∷ []) [] 0 [] ≡ neg_g (whole 6) }
+    ensures created_first { value_of fermions (placed (created 2) (pos 1 ∷ []) ∷ placed (taken 3) (pos 1 ∷ []) ∷ []) [] 0 [] ≡
+        neg_g (whole 6) }
     ensures taken_first { value_of fermions (placed (taken 3) (pos 1 ∷ []) ∷ placed (created 2) (pos 1 ∷ []) ∷ []) [] 0 [] ≡ whole 6 }
-    ensures created_first_twisted { value_of fermions (placed (created 2) (pos 1 ∷ []) ∷ placed (taken 3) (pos 1 ∷ []) ∷ []) (pos 1 ∷ []) 0 [] ≡ whole 6 }
+    ensures created_first_twisted { value_of fermions (placed (created 2) (pos 1 ∷ []) ∷ placed (taken 3) (pos 1 ∷ []) ∷ []) (pos 1 ∷ []) 0 [] ≡
+        whole 6 }
     // two shared lines, and the same with the lines exchanged
-    ensures shared_lines { value_of fermions (placed pair_created (pos 1 ∷ pos 2 ∷ []) ∷ placed pair_taken (pos 1 ∷ pos 2 ∷ []) ∷ []) [] 0 [] ≡ neg_g (whole 1) }
-    ensures exchanged_lines { value_of fermions (placed pair_created (pos 1 ∷ pos 2 ∷ []) ∷ placed pair_taken (pos 2 ∷ pos 1 ∷ []) ∷ []) [] 0 [] ≡ whole 1 }
+    ensures shared_lines { value_of fermions (placed pair_created (pos 1 ∷ pos 2 ∷ []) ∷ placed pair_taken (pos 1 ∷ pos 2 ∷ []) ∷ []) [] 0 [] ≡
+        neg_g (whole 1) }
+    ensures exchanged_lines { value_of fermions (placed pair_created (pos 1 ∷ pos 2 ∷ []) ∷ placed pair_taken (pos 2 ∷ pos 1 ∷ []) ∷ []) [] 0 [] ≡
+        whole 1 }
     // an odd tensor stands between the two that share a line
-    ensures odd_between { value_of fermions (placed (created 1) (pos 1 ∷ []) ∷ placed (created 1) (negsuc 0 ∷ []) ∷ placed (taken 1) (pos 1 ∷ []) ∷ []) [] 1 (0 ∷ []) ≡ whole 1 }
+    ensures odd_between { value_of fermions (placed (created 1) (pos 1 ∷ []) ∷ placed (created 1) (negsuc 0 ∷ []) ∷ placed (taken 1) (pos 1 ∷ []) ∷ []) [] 1 (0 ∷ []) ≡
+        whole 1 }
     // single operations
     ensures own_trace { trace_entry (diagonal In Out) ((0, 1) ∷ []) [] ≡ whole 5 }
     ensures own_pair { pair_entry (created 2) (taken 3) ((0, 0) ∷ []) false [] ≡ neg_g (whole 6) }

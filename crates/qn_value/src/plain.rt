@@ -1,6 +1,7 @@
 //! A plain, slow program that computes the value of a small network from its definition.
 //!
-//! It sums over all values of the bonds, and computes the sign of each summand from the whole word. Tests of faster code compare with it.
+//! It sums over all values of the bonds, and computes the sign of each summand from the whole word. Tests of faster
+//! code compare with it.
 
 ghost use Rattle.std.specs.Prelude.{◌≡◌, ◌≤◌, ◌<◌, ◌^◌, ◌*◌, ◌↔◌, ◌&&◌, ◌++◌, ℕ, Bool, List, count_by, IsNone, IfSome, IfOk, OnOk, IfErr, map, slice_index_or, false};
 ghost use Rattle.qn_sign.specs.Sign.{exchange_sign, stands_before, is_odd, xor};
@@ -312,7 +313,8 @@ fn times(first: Gauss, second: Gauss) -> Gauss
     multiply::<Brand>(first, second, Blank::new(1))
 }
 
-/// A product, with a bound on the magnitudes that is multiplied by the magnitude of its first factor, where that is in range.
+/// A product, with a bound on the magnitudes that is multiplied by the magnitude of its first factor, where that is in
+/// range.
 fn scaled(first: Gauss, second: Gauss, size: u128) -> Option<(Gauss, u128)>
     requires size { mag second ≤ size }
     requires bound { size ≤ limit }
@@ -391,7 +393,9 @@ fn is_passed_oddly(
     later: &[LineEnd],
 ) -> bool
     requires { IsSummand summand.now }
-    ensures { result ≡ is_odd (count_by (λ y. odd_end (parity_in parities.now) (assignment_of summand.now) end && odd_end (parity_in parities.now) (assignment_of summand.now) y && stands_before same_end word.now y end) later.now) }
+    ensures { result ≡
+        is_odd (
+        count_by (λ y. odd_end (parity_in parities.now) (assignment_of summand.now) end && odd_end (parity_in parities.now) (assignment_of summand.now) y && stands_before same_end word.now y end) later.now) }
 {
     match later.split_first() {
         None => false,
@@ -423,7 +427,8 @@ fn is_order_minus(
     }
 }
 
-/// A summand with its sign, and the product of the magnitudes, where that is in range. `legs` is the word, and `order` the goal.
+/// A summand with its sign, and the product of the magnitudes, where that is in range. `legs` is the word, and `order`
+/// the goal.
 fn signed_summand(
     parities: &[LineParities],
     tensors: &[PlainTensor],
@@ -434,7 +439,9 @@ fn signed_summand(
     requires summand { IsSummand summand.now }
     requires legs { legs.now ≡ word (map rows_node tensors.now) }
     requires order { order.now ≡ goal summand.now.bonds summand.now.opens }
-    ensures value { IfSome result (λ z. z.0 ≡ signed (sign (parity_in parities.now) (map rows_node tensors.now) summand.now.bonds summand.now.opens (assignment_of summand.now)) (product (map rows_node tensors.now) (assignment_of summand.now))) }
+    ensures value { IfSome result (λ z.
+        z.0 ≡
+        signed (sign (parity_in parities.now) (map rows_node tensors.now) summand.now.bonds summand.now.opens (assignment_of summand.now)) (product (map rows_node tensors.now) (assignment_of summand.now))) }
     ensures magnitude { IfSome result (λ z. z.1 ≡ magnitudes (map rows_node tensors.now) (assignment_of summand.now)) }
     ensures bound { IfSome result (λ z. z.1 ≤ limit) }
     ensures within { IfSome result (λ z. mag z.0 ≤ z.1) }
@@ -457,7 +464,9 @@ fn is_minus(
     summand: &Summand<'_>,
 ) -> bool
     requires { IsSummand summand.now }
-    ensures { result ≡ xor (twist_sign (parity_in parities.now) summand.now.bonds (assignment_of summand.now)) (exchange_sign same_end (odd_end (parity_in parities.now) (assignment_of summand.now)) legs.now order.now) }
+    ensures { result ≡
+        xor (twist_sign (parity_in parities.now) summand.now.bonds (assignment_of summand.now)) (
+        exchange_sign same_end (odd_end (parity_in parities.now) (assignment_of summand.now)) legs.now order.now) }
 {
     is_twisted_minus(parities, summand.bonds, summand)
         ^ is_order_minus(parities, summand, legs, order)
@@ -519,8 +528,12 @@ fn sum_of_summands(
     requires count { count ≡ summands bonds.now }
     requires legs { legs.now ≡ word (map rows_node tensors.now) }
     requires order { order.now ≡ goal bonds.now opens.now }
-    ensures value { IfSome result (λ z. z ≡ flat (parity_in parities.now) (map rows_node tensors.now) bonds.now opens.now (at_values opens.now values.now)) }
-    ensures none { IsNone result ↔ (limit < total bonds.now (magnitudes (map rows_node tensors.now)) (at_values opens.now values.now)) }
+    ensures value { IfSome result (λ z.
+        z ≡
+        flat (parity_in parities.now) (map rows_node tensors.now) bonds.now opens.now (
+        at_values opens.now values.now)) }
+    ensures none { IsNone result ↔
+        (limit < total bonds.now (magnitudes (map rows_node tensors.now)) (at_values opens.now values.now)) }
 {
     let mut sum = zero();
     let mut size: u128 = 0;
@@ -545,8 +558,8 @@ fn sum_of_summands(
     Some(sum)
 }
 
-/// The value of a network, where the open ends have these values: the sum, over all values of the bonds, of the sign times the product of the entries.
-/// The parities of values that no line of `parities` gives are even.
+/// The value of a network, where the open ends have these values: the sum, over all values of the bonds, of the sign
+/// times the product of the entries. The parities of values that no line of `parities` gives are even.
 pub fn evaluate(
     alloc: Global,
     parities: &[LineParities],
@@ -555,7 +568,10 @@ pub fn evaluate(
     opens: &[LineEnd],
     values: &[u32],
 ) -> Result<Gauss, EvaluationFault>
-    ensures value { IfOk result (λ z. z ≡ flat (parity_in parities.now) (map rows_node tensors.now) bonds.now opens.now (at_values opens.now values.now)) }
+    ensures value { IfOk result (λ z.
+        z ≡
+        flat (parity_in parities.now) (map rows_node tensors.now) bonds.now opens.now (
+        at_values opens.now values.now)) }
     ensures range { OnOk result (IsInRange (map rows_node tensors.now) bonds.now opens.now values.now) }
     ensures err { IfErr result (IsEvaluationFault (map rows_node tensors.now) bonds.now opens.now values.now) }
 {

@@ -1,3 +1,5 @@
+//! Traces, pairs and networks, summed by the plain program.
+
 use crate::plain::{
     EvaluationFault, LineEnd, LineParities, PlainRow, PlainTensor, SummedLine, evaluate,
 };
@@ -77,7 +79,8 @@ fn bond(label: i64, dim: u32, twisted: bool) -> SummedLine {
     }
 }
 
-// The value of one matrix with the diagonal 2, 3 on a line whose second value is odd: the trace, and the supertrace where the Out leg stands first.
+// The value of one matrix with the diagonal 2, 3 on a line whose second value is odd: the trace, and the supertrace
+// where the Out leg stands first.
 #[test]
 fn traces(rt: HostRuntime) -> Result<(), Fail> {
     let alloc = rt.alloc();
@@ -117,7 +120,8 @@ fn pairs(rt: HostRuntime) -> Result<(), Fail> {
     Ok(())
 }
 
-// Two shared lines and the same with the lines exchanged, an odd tensor between two that share a line, and values that are refused.
+// Two shared lines and the same with the lines exchanged, an odd tensor between two that share a line, and values that
+// are refused.
 #[test]
 fn networks(rt: HostRuntime) -> Result<(), Fail> {
     let alloc = rt.alloc();

@@ -1,4 +1,6 @@
 //! The words of the command line of `qntn`.
+//!
+//! For `qn_cli`. It hands on the job that the words name, or the place of the first word that is at fault.
 #![tactic(auto)]
 
 #[cfg(test)]

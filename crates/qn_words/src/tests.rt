@@ -1,3 +1,5 @@
+//! Lines of words, the commands that they are, and the first word that is none.
+
 use crate::{Job, read_words};
 use std::alloc::{AllocError, Global};
 use std::test::Fail;

@@ -1,3 +1,5 @@
+//! The command that a line of words names, or the place of the first word that is at fault.
+
 ghost use Rattle.std.specs.Prelude.{◌≡◌, ◌≤◌, ◌<◌, ◌^◌, ◌&&◌, ℕ, Some, IfOk, IfSome, map, nat_le, string_bytes};
 ghost use Rattle.std.specs.Fmt.{decimal};
 ghost use Rattle.qn_words.specs.Words.{HasWorkers, command_of, count_at, end_at, gen_of, job_by, job_of, number_in, workers_at};

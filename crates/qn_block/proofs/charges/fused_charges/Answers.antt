@@ -21,8 +21,8 @@ loop-n-init g c =
       fluxes = subst (All (IsFlux fs)) (sym none) (All-nil (IsFlux fs));
     }
 
-pub returns-then-len-gt64-clause-err : goal.returns-then-len-gt64-clause-err
-returns-then-len-gt64-clause-err g c =
+pub returns-then-len-gt-MAX_SECTORS-clause-err : goal.returns-then-len-gt-MAX_SECTORS-clause-err
+returns-then-len-gt-MAX_SECTORS-clause-err g c =
     let fs = c.args.group.now in
     let ls = c.args.legs.now in
     let i = c.loop-n.n - 1 in

@@ -2,8 +2,9 @@ use Rattle.std.proofs.Common.{rules, arith, subst, sym, refl, ◌<◌, ◌≤◌
 use Rattle.std.proofs.lemmas.List.{get_or_default}
 use Rattle.qn_auto.specs.SumAutomaton.{sites_in}
 use Rattle.qn_mpo.specs.Tables.{IsTableOf}
-use Rattle.qn_mpo.proofs.Products.{next_steps, product_done, product_first, product_more, product_stops, scene_small, scene_table, stop_as, times_made, times_stop, within_steps}
+use Rattle.qn_mpo.proofs.Products.{product_done, product_first, product_more, product_stops, scene_small, scene_table, stop_as, times_made, times_stop, within_steps}
 use Rattle.qn_mpo.proofs.product.product_from.Goals as goal
+use Rattle.qn_facts.proofs.Numbers.{next_steps}
 
 pub bounds-tables-first : goal.bounds-tables-first
 bounds-tables-first g c = let small : c.args.first < length c.tables-tables.result.now = subst (λ ts. c.args.first < length ts) (sym c.tables-tables.ensures) c.requires.first in search rules

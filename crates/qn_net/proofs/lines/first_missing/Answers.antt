@@ -1,7 +1,8 @@
 use Rattle.std.proofs.Common.{◌<◌, negsuc, arith}
 use Rattle.qn_net.specs.Refusals.{legs_with}
-use Rattle.qn_net.proofs.LineLemmas.{step_all, stands_not}
+use Rattle.qn_net.proofs.LineLemmas.{stands_not}
 use Rattle.qn_net.proofs.lines.first_missing.Goals as goal
+use Rattle.qn_facts.proofs.Numbers.{one_more}
 
 pub returns-then-not-has_negative-clause-some : goal.returns-then-not-has_negative-clause-some
 returns-then-not-has_negative-clause-some c = record {
@@ -10,4 +11,4 @@ returns-then-not-has_negative-clause-some c = record {
 }
 
 pub loop-n-preserved : goal.loop-n-preserved
-loop-n-preserved c = step_all (λ k. 0 < legs_with (negsuc k) c.args.table.now) c.loop-n.n c.loop-n.invariant (c.has_negative.ensures.0 c.if-not-has_negative.false)
+loop-n-preserved c = one_more (λ k. 0 < legs_with (negsuc k) c.args.table.now) c.loop-n.n c.loop-n.invariant (c.has_negative.ensures.0 c.if-not-has_negative.false)

@@ -2,8 +2,8 @@ use Rattle.std.proofs.Common.{◌∙◌, ap, subst}
 use Rattle.std.proofs.lemmas.List.{get_or_default}
 use Rattle.qn_opsum.specs.Sums.{TermValue, no_term, term_at}
 use Rattle.qn_opsum.specs.Refusals.{IsGood}
-use Rattle.qn_opsum.proofs.Lookups.{one_more}
 use Rattle.qn_opsum.proofs.checks.first_fault.Goals as goal
+use Rattle.qn_facts.proofs.Numbers.{one_more}
 
 pub loop-term-preserved : goal.loop-term-preserved
 loop-term-preserved g c =

@@ -2,8 +2,8 @@ use Rattle.std.proofs.Common.{◌∙◌, [], arith, sym, subst}
 use Rattle.std.proofs.lemmas.Bool.{false≢true}
 use Rattle.std.proofs.lemmas.List.{get_or_default}
 use Rattle.qn_opsum.specs.Refusals.{BadName, IsUnknown}
-use Rattle.qn_opsum.proofs.Lookups.{one_more}
 use Rattle.qn_opsum.proofs.checks.first_unknown.Goals as goal
+use Rattle.qn_facts.proofs.Numbers.{one_more}
 
 pub loop-i-preserved : goal.loop-i-preserved
 loop-i-preserved g c =

@@ -1,8 +1,8 @@
 use Rattle.std.proofs.Common.{◌∙◌, get_or, subst}
 use Rattle.std.proofs.lemmas.List.{get_or_default}
 use Rattle.qn_sites.specs.Sites.{IsSite, SiteValue}
-use Rattle.qn_opsum.proofs.Lookups.{one_more}
 use Rattle.qn_opsum.proofs.checks.known_sites.Goals as goal
+use Rattle.qn_facts.proofs.Numbers.{one_more}
 
 pub loop-site-preserved : goal.loop-site-preserved
 loop-site-preserved g c = λ k d lt.

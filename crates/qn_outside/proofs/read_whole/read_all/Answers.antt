@@ -1,7 +1,7 @@
 use Rattle.std.proofs.Common.{◌++◌, arith, length-append}
 use Rattle.std.proofs.KnownBytes.{Consumes-trans}
-use Rattle.qn_outside.proofs.Known.{on_err}
 use Rattle.qn_outside.proofs.read_whole.read_all.Goals as goal
+use Rattle.qn_facts.proofs.Results.{on_err}
 
 pub returns-in_err-read_more-clause-part : goal.returns-in_err-read_more-clause-part
 returns-in_err-read_more-clause-part g c =

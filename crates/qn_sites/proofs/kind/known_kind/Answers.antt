@@ -3,8 +3,9 @@ use Rattle.std.proofs.lemmas.List.{length-map}
 use Rattle.std.proofs.lemmas.Simd.{map-map}
 use Rattle.qn_sites.specs.Kinds.{KindRow, OpRow, kind_op}
 use Rattle.qn_sites.specs.KindRows.{kind_row, op_row}
-use Rattle.qn_sites.proofs.KindFacts.{charge_lengths, kind_is, op_lengths, unmapped}
+use Rattle.qn_sites.proofs.KindFacts.{charge_lengths, kind_is, op_lengths}
 use Rattle.qn_sites.proofs.kind.known_kind.Goals as goal
+use Rattle.qn_facts.proofs.Lists.{unmapped}
 
 pub returns : goal.returns
 returns c =

@@ -1,13 +1,13 @@
-use Rattle.std.proofs.Common.{lit<, ◌≡◌, ◌∙◌, ◌≤◌, List, ap, arith, length, map, refl, sym, subst}
-use Rattle.std.proofs.lemmas.List.{length-map}
+use Rattle.std.proofs.Common.{lit<, ◌≡◌, ◌∙◌, ◌≤◌, List, ap, arith, length, map, subst}
 use Rattle.qn_index.specs.declared.leg.Dir.TheVariants.{Out}
 use Rattle.qn_index.specs.Legs.{LegValue, SectorValue, total}
 use Rattle.qn_sites.specs.Kinds.{KindRow, kind_leg, kind_op}
 use Rattle.qn_sites.specs.declared.fault.SiteFault.TheVariants.{Memory}
 use Rattle.qn_sites.specs.Refusals.{IsOwnFault}
 use Rattle.qn_sites.specs.KindRows.{kind_row}
-use Rattle.qn_sites.proofs.KindFacts.{kind_count, kind_entries, kind_names, no_own_fault, other_err, total_single}
+use Rattle.qn_sites.proofs.KindFacts.{kind_count, kind_entries, kind_names, no_own_fault, total_single}
 use Rattle.qn_sites.proofs.kind.site_of.Goals as goal
+use Rattle.std.proofs.lemmas.Result.{IfErr-weaker}
 
 pub own-requires : goal.own-requires
 own-requires g c =
@@ -46,7 +46,7 @@ returns-clause-err g c =
     let leg_with : List SectorValue → LegValue = λ ps. record { arrow = Out; sectors = ps } in
     let leg : c.in-Ok.leg ≡ kind_leg k = c.in-Ok.ensures.ok ∙ ap leg_with (c.in_ok-sectors.ensures ∙ c.known_kind.ensures.sectors) in
     let same = c.in_ok-ops.ensures ∙ c.known_kind.ensures.ops in
-    other_err (IsOwnFault c.args.group.now c.in-Ok.leg (map (λ o. record { name = o.0; charge = o.1; entries = o.2.items }) c.in_ok-ops.ops.items)) (λ e. e ≡ Memory) c.own.result
+    IfErr-weaker c.own.result (IsOwnFault c.args.group.now c.in-Ok.leg (map (λ o. record { name = o.0; charge = o.1; entries = o.2.items }) c.in_ok-ops.ops.items)) (λ e. e ≡ Memory)
     (λ e f. no_own_fault k e is
     (subst (λ fs. IsOwnFault fs (kind_leg k) (map (kind_op (length k.charges)) k.ops) e) c.requires.group
     (subst (λ l. IsOwnFault c.args.group.now l (map (kind_op (length k.charges)) k.ops) e) leg

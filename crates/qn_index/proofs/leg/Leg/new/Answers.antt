@@ -12,8 +12,8 @@ returns-in-Some-first_bad_dim-clause-err g c = (
   subst (λ (ss : List (Sector g.row.K)). IsFirst (BadDim ss) c.in-Some-first_bad_dim.i) c.deref-2.ensures.value c.in-Some-first_bad_dim.ensures,
 )
 
-pub returns-then-len-gt64-clause-err : goal.returns-then-len-gt64-clause-err
-returns-then-len-gt64-clause-err g c = (
+pub returns-then-len-gt-MAX_SECTORS-clause-err : goal.returns-then-len-gt-MAX_SECTORS-clause-err
+returns-then-len-gt-MAX_SECTORS-clause-err g c = (
   subst (λ (ss : List (Sector g.row.K)). HasNone (BadCharge c.args.group.now ss)) c.deref.ensures.value c.in-None.ensures.first,
   subst (λ (ss : List (Sector g.row.K)). HasNone (BadDim ss)) c.deref-2.ensures.value c.in-None-first_bad_dim.ensures,
   omega (arith, c.len.ensures),
