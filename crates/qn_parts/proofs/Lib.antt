@@ -8,6 +8,7 @@ pub mod BlockWalk
 pub mod GroupSize
 pub mod Accepted
 pub mod Depths
+pub mod Noted
 pub mod Rereading
 pub mod Numerals
 pub mod Appending
