@@ -44,17 +44,18 @@ class OffFlux(ArrayFault):
     """An entry other than 0 stands where the charges don't add up to the flux.
 
     `place` is its index in the array (from 0), `tuple` the sectors of its legs, `charge` what the charges
-    of the ``out`` legs less those of the ``in`` legs add up to there, `flux` what they should.
+    of the ``out`` legs less those of the ``in`` legs add up to there, `flux` what they should. Where the charges of
+    a link are found from entries, `tuple` is None, and `flux` is the charge that an entry before this one gave.
     """
 
     name = "off flux"
 
     def __init__(self, value: Any, place: Any, sectors: Any, charge: Any, flux: Any, what: str = "") -> None:
-        super().__init__(
-            f"{what}the entry {value} at {_bracketed(place)} (sectors {_bracketed(sectors)}) has the charge "
-            f"{_bare(charge)}, out less in, and the flux is {_bare(flux)}",
-            place,
-        )
+        if sectors is None:
+            has = f"leads to the charge {_bare(charge)}, and an entry before it to {_bare(flux)}"
+        else:
+            has = f"(sectors {_bracketed(sectors)}) has the charge {_bare(charge)}, out less in, and the flux is {_bare(flux)}"
+        super().__init__(f"{what}the entry {value} at {_bracketed(place)} {has}", place)
         self.value, self.tuple, self.charge, self.flux = value, sectors, charge, flux
 
 

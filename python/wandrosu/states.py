@@ -63,7 +63,8 @@ class State:
         """The state of dense arrays A[left, site, right]; the first is A[site, right], the last A[left, site].
 
         `links` are the sectors of the n - 1 links, whose charge is that of all sites left of it. Without them they are
-        found from the entries, and the values of each link are sorted by charge, which changes no amplitude.
+        found from the entries; the values of each link are sorted by charge, and those that no entry on the left reaches
+        are left out, which changes no amplitude.
         `flux` is the charge of the state; without it that of the last array's entries. Entries are whole, as in
         `Tensor.from_array`. Raises `OffFlux` with the site where charges don't fit, and `WrongShape`.
         """
@@ -290,31 +291,31 @@ def _sorted_links(arrays: List[np.ndarray], sites: Sequence[Site]) -> Tuple[List
             raise WrongShape(
                 f"site {j + 1}: the array has the shape {array.shape}, and wants {len(left)} and {sites[j].leg.dim} at left and site"
             )
+        following = arrays[j + 1]
+        if following.shape[0] != array.shape[2]:
+            raise WrongShape(f"site {j + 2}: the array has {following.shape[0]} values at left, and site {j + 1} has {array.shape[2]} at right")
         right = _right_charges(array, left, sites[j], j)
-        order = sorted(range(len(right)), key=lambda b: right[b])
+        if not right:
+            right, following = {0: group.zero}, np.zeros_like(following)
+        order = sorted(right, key=lambda b: (right[b], b))
         left = [right[b] for b in order]
-        arrays[j] = array[:, :, order]
-        if arrays[j + 1].shape[0] != len(order):
-            raise WrongShape(f"site {j + 2}: the array has {arrays[j + 1].shape[0]} values at left, and site {j + 1} has {len(order)} at right")
-        arrays[j + 1] = arrays[j + 1][order]
+        arrays[j], arrays[j + 1] = array[:, :, order], following[order]
         links.append(Leg("out", [(charge, len(list(same))) for charge, same in itertools.groupby(left)], group))
     return arrays, links
 
 
-def _right_charges(array: np.ndarray, left: Sequence[Charge], site: Site, j: int) -> List[Charge]:
-    """The charge of each value of the link right of a site, which its entries tell; zero where it has none."""
+def _right_charges(array: np.ndarray, left: Sequence[Charge], site: Site, j: int) -> Dict[int, Charge]:
+    """The charges of the values of the link right of a site, as the entries tell them; values without entries have none."""
     group = site.group
-    charges: List[Optional[Charge]] = [None] * array.shape[2]
+    charges: Dict[int, Charge] = {}
     real, imaginary = parts_of(array)
     for a, s, b in np.argwhere((real != 0) | (imaginary != 0)):
         charge = group.add(left[a], site.leg.charges[s])
-        if charges[b] is None:
-            charges[b] = charge
-        elif charges[b] != charge:
+        if charges.setdefault(int(b), charge) != charge:
             place = (a, s, b) if j else (s, b)
             value = Gaussian(real[a, s, b], imaginary[a, s, b])
-            raise OffFlux(value, tuple(map(int, place)), (), charge, charges[b], f"site {j + 1}: ")
-    return [group.zero if charge is None else charge for charge in charges]
+            raise OffFlux(value, tuple(map(int, place)), None, charge, charges[int(b)], f"site {j + 1}: ")
+    return charges
 
 
 def _total(array: np.ndarray, link: Leg, site: Site) -> Charge:
