@@ -8,7 +8,12 @@ from hypothesis import HealthCheck, settings
 from wandrosu import ProgramNotFound, find_program
 
 settings.register_profile(
-    "suite", deadline=None, max_examples=60, suppress_health_check=[HealthCheck.too_slow], derandomize=True
+    "suite",
+    deadline=None,
+    max_examples=60,
+    suppress_health_check=[HealthCheck.too_slow],
+    derandomize=True,
+    database=None,
 )
 settings.load_profile("suite")
 

@@ -1,4 +1,4 @@
-"""``python -m wandrosu map COMMAND FILES..``, and ``python -m wandrosu check COMMAND FILES..``."""
+"""``python -m wandrosu map COMMAND FILES..``, ``check COMMAND FILES..`` and ``which``."""
 
 from __future__ import annotations
 
@@ -9,12 +9,13 @@ from typing import List, Optional
 
 from . import many, schema
 from .errors import WandrosuError
+from .program import checksum, find_program
 
 
 def parser() -> argparse.ArgumentParser:
     """The words of the command line."""
     top = argparse.ArgumentParser(prog="python -m wandrosu", description="Exact tensor networks: many documents at once, and their forms.")
-    commands = top.add_subparsers(dest="task", required=True, metavar="map|check")
+    commands = top.add_subparsers(dest="task", required=True, metavar="map|check|which")
     run = commands.add_parser("map", help="run a command over many documents", description=many.__doc__)
     run.add_argument("command", choices=many.COMMANDS)
     run.add_argument("files", nargs="+", type=Path, metavar="FILE", help="documents; a folder stands for its *.json")
@@ -26,12 +27,15 @@ def parser() -> argparse.ArgumentParser:
     check = commands.add_parser("check", help="say where the form of documents is wrong", description=schema.__doc__)
     check.add_argument("command", choices=[name for name in schema.COMMANDS if name != "gen"] + list(schema.NAMES))
     check.add_argument("files", nargs="+", type=Path, metavar="FILE")
+    commands.add_parser("which", help="say which program is found, and of which release it is")
     return top
 
 
 def main(words: Optional[List[str]] = None) -> int:
     """Runs the command line. Status 0 where all is done or right, 1 where something isn't, 130 where it was broken off."""
     given = parser().parse_args(words)
+    if given.task == "which":
+        return _which()
     files = [file for path in given.files for file in (sorted(path.glob("*.json")) if path.is_dir() else [path])]
     try:
         return _map(given, files) if given.task == "map" else _check(given.command, files)
@@ -65,6 +69,21 @@ def _check(command: str, files: List[Path]) -> int:
             print(f"{file}: {problem}")
     print(f"{len(files) - wrong} right, {wrong} wrong")
     return 1 if wrong else 0
+
+
+def _which() -> int:
+    try:
+        program = find_program()
+    except WandrosuError as missing:
+        print(missing, file=sys.stderr)
+        return 1
+    print(f"{program}\nsha256 {checksum(program)}")
+    release = Path(program).with_name("RELEASE.txt")
+    if not release.exists():
+        release = Path(program).parent.parent / "RELEASE.txt"
+    if release.exists():
+        print(release.read_text(encoding="utf-8"), end="")
+    return 0
 
 
 if __name__ == "__main__":

@@ -6,6 +6,7 @@ import itertools
 from typing import Any, Dict, Iterable, List, Mapping, Optional, Tuple
 
 import numpy as np
+from numpy.typing import NDArray
 
 from .groups import Charge, Group
 from .legs import Leg, group_of
@@ -67,7 +68,7 @@ class Combiner:
     def to_tensor(self) -> Tensor:
         """The table as a tensor of flux zero: 1 or -1 at matching values."""
         group, legs = self.group, self.legs
-        blocks: Dict[Tuple[int, ...], np.ndarray] = {}
+        blocks: Dict[Tuple[int, ...], NDArray[Any]] = {}
         for number, (charge, tuples) in enumerate(self._sectors().items()):
             width = sum(map(self._size, tuples))
             before = 0

@@ -6,12 +6,13 @@ from dataclasses import dataclass, field
 from typing import Any, Dict, List, Optional, Sequence, Tuple, Union
 
 import numpy as np
+from numpy.typing import NDArray
 
 from .errors import WrongShape
 from .gaussian import Gaussian, gaussian, joined, parts_of
 from .tensors import Sector, Tensor
 
-Exact = Union[Tensor, Gaussian, int, np.ndarray]
+Exact = Union[Tensor, Gaussian, int, NDArray[Any]]
 
 
 @dataclass(frozen=True)
@@ -87,7 +88,7 @@ def compare(found: Any, exact: Exact, relative: float = 1e-10) -> Comparison:
     """
     tensor = exact if isinstance(exact, Tensor) else None
     parts = parts_of(tensor.to_array() if tensor is not None else _array(exact))
-    wanted = joined(*parts, dtype=complex)
+    wanted = joined(parts[0], parts[1], complex)
     given = np.asarray(_array(found), dtype=np.complex128)
     if given.shape != wanted.shape:
         raise WrongShape(f"what was found has the shape {given.shape} and what is exact {wanted.shape}")
@@ -121,7 +122,7 @@ def compare(found: Any, exact: Exact, relative: float = 1e-10) -> Comparison:
     )
 
 
-def _array(value: Any) -> np.ndarray:
+def _array(value: Any) -> NDArray[Any]:
     """One number or an array of them as an array; exact numbers stay exact."""
     if isinstance(value, Tensor):
         return value.to_array()
@@ -132,12 +133,13 @@ def _array(value: Any) -> np.ndarray:
     return np.asarray(value)
 
 
-def _distance(a: np.ndarray, b: np.ndarray) -> np.ndarray:
+def _distance(a: NDArray[Any], b: NDArray[Any]) -> NDArray[Any]:
     """|a - b|, infinite where that is no number."""
-    return np.nan_to_num(np.abs(a - b), nan=np.inf, posinf=np.inf)
+    distance: NDArray[Any] = np.nan_to_num(np.abs(a - b), nan=np.inf, posinf=np.inf)
+    return distance
 
 
-def _sign_blocks(tensor: Optional[Tensor], wrong: np.ndarray, wanted: np.ndarray) -> Tuple[Tuple[Block, ...], str]:
+def _sign_blocks(tensor: Optional[Tensor], wrong: NDArray[Any], wanted: NDArray[Any]) -> Tuple[Tuple[Block, ...], str]:
     """The blocks with wrong signs, and what tells them from the other blocks."""
     everywhere = bool(wrong[wanted != 0].all())
     if tensor is None:
@@ -158,20 +160,16 @@ def _sign_blocks(tensor: Optional[Tensor], wrong: np.ndarray, wanted: np.ndarray
 
 
 def _pattern(rows: Sequence[Tuple[Tuple[int, ...], bool]]) -> str:
-    """What of one or two legs' parities tells the wrong blocks, the simplest first; empty where nothing does."""
+    """What of one or two legs' parities tells the wrong blocks from the others: all that does; empty where nothing does."""
     legs = range(len(rows[0][0]))
-    for i in legs:
-        if all(bool(p[i]) == bad for p, bad in rows):
-            return f"leg {i + 1} is odd (a missing or a doubled sign of a turned leg, as of a trace and a supertrace)"
-    for i in legs:
-        for j in legs[i + 1 :]:
-            if all(bool(p[i] & p[j]) == bad for p, bad in rows):
-                return f"legs {i + 1} and {j + 1} are both odd (two odd legs exchanged without their sign, or once too often)"
-    for i in legs:
-        for j in legs[i + 1 :]:
-            if all(bool(p[i] ^ p[j]) == bad for p, bad in rows):
-                return f"just one of legs {i + 1} and {j + 1} is odd"
-    return ""
+    pairs = [(i, j) for i in legs for j in legs[i + 1 :]]
+    one = [f"leg {i + 1} is odd" for i in legs if all(bool(p[i]) == bad for p, bad in rows)]
+    both = [f"legs {i + 1} and {j + 1} are both odd" for i, j in pairs if all(bool(p[i] & p[j]) == bad for p, bad in rows)]
+    if one or both:
+        causes = (["a turned leg's sign is missing or doubled"] if one else []) + (["odd legs are exchanged without their sign"] if both else [])
+        return f"{', or '.join(one + both)} (as where {', or where '.join(causes)})"
+    differ = [f"just one of legs {i + 1} and {j + 1} is odd" for i, j in pairs if all(bool(p[i] ^ p[j]) == bad for p, bad in rows)]
+    return ", or ".join(differ)
 
 
 def _index(place: Sequence[int]) -> str:

@@ -10,6 +10,7 @@ import numbers
 from typing import Any, Optional, Tuple, Union
 
 import numpy as np
+from numpy.typing import NDArray
 
 from .errors import NotWhole
 
@@ -150,7 +151,7 @@ def gaussian(value: Any, place: Any = None) -> Gaussian:
     raise NotWhole(value, place)
 
 
-def parts_of(array: np.ndarray) -> Tuple[np.ndarray, np.ndarray]:
+def parts_of(array: NDArray[Any]) -> Tuple[NDArray[Any], NDArray[Any]]:
     """The real and the imaginary parts of an array as two arrays of whole numbers of the same shape.
 
     Their type is int64 where all parts fit, and `object` with Python ints else. Raises `NotWhole`
@@ -173,7 +174,7 @@ def parts_of(array: np.ndarray) -> Tuple[np.ndarray, np.ndarray]:
     raise TypeError(f"an array of {array.dtype} has no numbers")
 
 
-def _float_parts(array: np.ndarray) -> Tuple[np.ndarray, np.ndarray]:
+def _float_parts(array: NDArray[Any]) -> Tuple[NDArray[Any], NDArray[Any]]:
     real, imaginary = array.real, array.imag
     with np.errstate(invalid="ignore"):
         whole = np.isfinite(real) & np.isfinite(imaginary) & (real == np.rint(real)) & (imaginary == np.rint(imaginary))
@@ -187,11 +188,11 @@ def _float_parts(array: np.ndarray) -> Tuple[np.ndarray, np.ndarray]:
     return _objects(exact(real)), _objects(exact(imaginary))
 
 
-def _objects(values: Any) -> np.ndarray:
+def _objects(values: Any) -> NDArray[Any]:
     return np.asarray(values, dtype=object)
 
 
-def _fitted(values: np.ndarray) -> np.ndarray:
+def _fitted(values: NDArray[Any]) -> NDArray[Any]:
     """The same whole numbers as int64 where all fit."""
     low, high = INT64
     flat = values.ravel()
@@ -200,7 +201,7 @@ def _fitted(values: np.ndarray) -> np.ndarray:
     return values
 
 
-def joined(real: np.ndarray, imaginary: np.ndarray, dtype: Any = None) -> np.ndarray:
+def joined(real: NDArray[Any], imaginary: NDArray[Any], dtype: Any = None) -> NDArray[Any]:
     """One array of real and imaginary parts.
 
     Without `dtype` the result is exact, and its type is the first of these that holds all entries:
@@ -235,10 +236,10 @@ def joined(real: np.ndarray, imaginary: np.ndarray, dtype: Any = None) -> np.nda
     return real.astype(dtype)
 
 
-def _greatest(values: np.ndarray) -> int:
+def _greatest(values: NDArray[Any]) -> int:
     return max(abs(int(values.min())), abs(int(values.max()))) if values.size else 0
 
 
-def _rounded(values: np.ndarray) -> np.ndarray:
+def _rounded(values: NDArray[Any]) -> NDArray[Any]:
     """Whole numbers as doubles, each the nearest one."""
     return values.astype(np.float64)

@@ -5,6 +5,7 @@ from __future__ import annotations
 from typing import Any, Dict, Iterable, List, Mapping, Optional, Tuple, Union
 
 import numpy as np
+from numpy.typing import NDArray
 
 from .groups import Charge, ChargeLike, Group, charge_parts
 
@@ -60,7 +61,7 @@ class Leg:
         """The first value of each sector."""
         return list(np.cumsum([0] + [dimension for _, dimension in self.sectors[:-1]])) if self.sectors else []
 
-    def sector_of_values(self) -> np.ndarray:
+    def sector_of_values(self) -> NDArray[Any]:
         """For each value the number of its sector, counted from 0."""
         return np.repeat(np.arange(len(self.sectors)), [dimension for _, dimension in self.sectors])
 

@@ -8,6 +8,7 @@ as the document isn't done again.
 
 from __future__ import annotations
 
+import importlib
 import os
 import sys
 import time
@@ -106,9 +107,8 @@ class Cluster:
     """
 
     def __init__(self, address: str) -> None:
-        from distributed import Client
-
-        self.client = Client(address, set_as_default=False)
+        self.distributed: Any = importlib.import_module("distributed")
+        self.client = self.distributed.Client(address, set_as_default=False)
         programs: Dict[str, str] = self.client.run(checksum, on_error="return")
         bad = {worker: str(e) for worker, e in programs.items() if not isinstance(e, str)}
         if not programs or bad:
@@ -126,9 +126,7 @@ class Cluster:
 
     def first(self, pending: Iterable[Any]) -> Tuple[List[Any], List[Any]]:
         """Those that are finished, once some are, and the rest."""
-        from distributed import wait as wait_on_cluster
-
-        finished, rest = wait_on_cluster(list(pending), return_when="FIRST_COMPLETED")
+        finished, rest = self.distributed.wait(list(pending), return_when="FIRST_COMPLETED")
         return list(finished), list(rest)
 
     def close(self) -> None:
@@ -157,7 +155,8 @@ def answers(engine: Any, command: str, paths: Sequence[Path], workers: Optional[
             for future in finished:
                 path, when = pending.pop(future)
                 try:
-                    yield Answer(path, *future.result(), when)
+                    state, text, words = future.result()
+                    yield Answer(path, state, text, words, when)
                 except Exception as failure:
                     yield Answer(path, "failed", "", f"{type(failure).__name__}: {failure}")
     finally:

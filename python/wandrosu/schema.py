@@ -36,7 +36,8 @@ def folder() -> Path:
 def load(name: str) -> Dict[str, Any]:
     """The schema of this name, or of the document that the command of this name reads."""
     name = COMMANDS[name][0] if name in COMMANDS else name
-    return json.loads((folder() / f"{name}.json").read_text(encoding="utf-8"))
+    schema: Dict[str, Any] = json.loads((folder() / f"{name}.json").read_text(encoding="utf-8"))
+    return schema
 
 
 def read(text: Union[str, bytes]) -> Any:

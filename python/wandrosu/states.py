@@ -8,6 +8,7 @@ from pathlib import Path
 from typing import Any, Dict, Iterable, List, Mapping, Optional, Sequence, Tuple, Union
 
 import numpy as np
+from numpy.typing import NDArray
 
 from .errors import OffFlux, WrongShape
 from .gaussian import Gaussian, gaussian, parts_of
@@ -118,7 +119,7 @@ class State:
         beginnings: List[List[Tuple[int, ...]]] = [[()]]
         for j in range(1, len(sites)):
             beginnings.append(sorted({s[:j] for s in kept}))
-        arrays: List[np.ndarray] = []
+        arrays: List[NDArray[Any]] = []
         for j, site in enumerate(sites):
             rows = {begin: number for number, begin in enumerate(beginnings[j])}
             last = j == len(sites) - 1
@@ -204,9 +205,8 @@ def expect(
 
 def states_document(bra: State, ket: State, operator: Optional[OperatorSum] = None) -> Dict[str, Any]:
     """The document of two states, and where given an operator sum, as ``overlap`` and ``expect`` read it."""
-    for other in (ket,) if operator is None else (ket, operator):
-        if other.sites != bra.sites:
-            raise ValueError("bra, ket and operator sum aren't on the same sites")
+    if ket.sites != bra.sites or (operator is not None and operator.sites != bra.sites):
+        raise ValueError("bra, ket and operator sum aren't on the same sites")
     document: Dict[str, Any] = {"group": bra.group.document(), "sites": [site.document() for site in bra.sites]}
     document.update(bra=bra.part(), ket=ket.part())
     if operator is not None:
@@ -268,7 +268,7 @@ def _scalar(text: str) -> Scalar:
     return Scalar(value.re, value.im, tensor.flux)
 
 
-def _with_links(array: np.ndarray, j: int, n: int) -> np.ndarray:
+def _with_links(array: NDArray[Any], j: int, n: int) -> NDArray[Any]:
     """The array of site j (from 0) with both links; the ends get links of dimension 1."""
     wanted = 3 - (j == 0) - (j == n - 1)
     if array.ndim != wanted:
@@ -278,7 +278,7 @@ def _with_links(array: np.ndarray, j: int, n: int) -> np.ndarray:
     return array[..., np.newaxis] if j == n - 1 else array
 
 
-def _sorted_links(arrays: List[np.ndarray], sites: Sequence[Site]) -> Tuple[List[np.ndarray], List[Leg]]:
+def _sorted_links(arrays: List[NDArray[Any]], sites: Sequence[Site]) -> Tuple[List[NDArray[Any]], List[Leg]]:
     """The arrays with the values of each link sorted by charge, and the links. Raises `OffFlux` where the entries of a
     link's value don't have one charge."""
     group = sites[0].group
@@ -304,7 +304,7 @@ def _sorted_links(arrays: List[np.ndarray], sites: Sequence[Site]) -> Tuple[List
     return arrays, links
 
 
-def _right_charges(array: np.ndarray, left: Sequence[Charge], site: Site, j: int) -> Dict[int, Charge]:
+def _right_charges(array: NDArray[Any], left: Sequence[Charge], site: Site, j: int) -> Dict[int, Charge]:
     """The charges of the values of the link right of a site, as the entries tell them; values without entries have none."""
     group = site.group
     charges: Dict[int, Charge] = {}
@@ -318,7 +318,7 @@ def _right_charges(array: np.ndarray, left: Sequence[Charge], site: Site, j: int
     return charges
 
 
-def _total(array: np.ndarray, link: Leg, site: Site) -> Charge:
+def _total(array: NDArray[Any], link: Leg, site: Site) -> Charge:
     """The charge of the first entry of the last array."""
     real, imaginary = parts_of(array)
     filled = np.argwhere((real != 0) | (imaginary != 0))

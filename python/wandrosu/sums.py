@@ -7,6 +7,7 @@ from pathlib import Path
 from typing import Any, Dict, Iterable, List, Mapping, Optional, Sequence, Tuple, Union
 
 import numpy as np
+from numpy.typing import NDArray
 
 from .gaussian import Gaussian, gaussian, joined, parts_of
 from .groups import U1, Charge, ChargeLike, Group
@@ -39,7 +40,7 @@ class Site:
     kind: str
     leg: Leg
     values: Tuple[str, ...]
-    operators: Dict[str, Tuple[Charge, np.ndarray]]
+    operators: Dict[str, Tuple[Charge, NDArray[Any]]]
 
     def __init__(
         self,
@@ -105,7 +106,7 @@ class Site:
         return f"Site({self.kind!r})" if self.kind != "own" else f"Site('own', {self.leg!r}, {list(self.operators)})"
 
 
-def _table(rows: Sequence[Sequence[Any]]) -> np.ndarray:
+def _table(rows: Sequence[Sequence[Any]]) -> NDArray[Any]:
     table = np.empty((len(rows), len(rows[0]) if rows else 0), object)
     for r, row in enumerate(rows):
         table[r, :] = [read_entry(e) for e in row]
@@ -149,7 +150,7 @@ class OperatorSum:
         network.positions = tuple((float(j), 0.0) for j in range(len(self.sites)))
         return network
 
-    def matrix(self, program: Optional[str] = None, dtype: Any = None) -> np.ndarray:
+    def matrix(self, program: Optional[str] = None, dtype: Any = None) -> NDArray[Any]:
         """The matrix of the sum between basis states, for few sites; rows are where it leads to.
 
         Rows and columns count the values of the sites with that of the last site fastest. The type is as in

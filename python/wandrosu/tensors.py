@@ -10,6 +10,7 @@ from __future__ import annotations
 from typing import Any, Dict, Iterable, List, Mapping, Optional, Sequence, Tuple
 
 import numpy as np
+from numpy.typing import NDArray
 
 from .errors import OffFlux, WrongShape
 from .gaussian import INT64, Gaussian, gaussian, joined, parts_of
@@ -18,7 +19,7 @@ from .legs import Leg, group_of
 
 Sector = Tuple[int, ...]
 """A tuple of sectors: the number of a sector for each leg, counted from 0."""
-Parts = Tuple[np.ndarray, np.ndarray]
+Parts = Tuple[NDArray[Any], NDArray[Any]]
 """The real and the imaginary parts of a block, one axis for each leg."""
 
 
@@ -51,7 +52,7 @@ class Tensor:
         for sectors, data in sorted((blocks or {}).items()):
             self._set_block(tuple(int(s) for s in sectors), np.asarray(data))
 
-    def _set_block(self, sectors: Sector, data: np.ndarray) -> None:
+    def _set_block(self, sectors: Sector, data: NDArray[Any]) -> None:
         if len(sectors) != len(self.legs) or any(not 0 <= s < len(leg.sectors) for leg, s in zip(self.legs, sectors)):
             raise WrongShape(f"the block {list(sectors)} doesn't name one sector for each of {len(self.legs)} legs", sectors)
         dims = tuple(leg.sectors[s][1] for leg, s in zip(self.legs, sectors))
@@ -107,7 +108,7 @@ class Tensor:
             tensor.blocks[block] = real[window].copy(), imaginary[window].copy()
         return tensor
 
-    def _refuse_off_flux(self, real: np.ndarray, imaginary: np.ndarray, filled: Sequence[np.ndarray]) -> None:
+    def _refuse_off_flux(self, real: NDArray[Any], imaginary: NDArray[Any], filled: Sequence[NDArray[Any]]) -> None:
         """Raises `OffFlux` at the first of the places that is off the flux."""
         net = np.zeros((len(self.group), len(filled[0])), np.int64)
         for leg, values in zip(self.legs, filled):
@@ -147,7 +148,7 @@ class Tensor:
         """For each leg 1 where the sector is odd and 0 where it is even."""
         return tuple(self.group.parity(leg.sectors[s][0]) for leg, s in zip(self.legs, sectors))
 
-    def to_array(self, dtype: Any = None) -> np.ndarray:
+    def to_array(self, dtype: Any = None) -> NDArray[Any]:
         """The dense array, one axis for each leg.
 
         Without `dtype` it is exact, and of the first of these types that holds all entries: int64; `object`
@@ -163,13 +164,13 @@ class Tensor:
             imaginary[window] = im
         return joined(real, imaginary, dtype)
 
-    def block(self, sectors: Sector, dtype: Any = None) -> np.ndarray:
+    def block(self, sectors: Sector, dtype: Any = None) -> NDArray[Any]:
         """The dense block of a tuple of sectors, zeros where none is kept; its type as in `to_array`."""
         parts = self.blocks.get(tuple(sectors))
         if parts is None:
             zeros = np.zeros([leg.sectors[s][1] for leg, s in zip(self.legs, sectors)], np.int64)
             parts = zeros, zeros
-        return joined(*parts, dtype)
+        return joined(parts[0], parts[1], dtype)
 
     def __getitem__(self, values: Any) -> Gaussian:
         """The entry at a value for each leg, each counted from 0."""
@@ -257,7 +258,7 @@ def entry(number: Any) -> Any:
     return [real, imaginary] if value.im else real
 
 
-def entries(real: np.ndarray, imaginary: np.ndarray) -> List[Any]:
+def entries(real: NDArray[Any], imaginary: NDArray[Any]) -> List[Any]:
     """A block's entries as documents write them, row-major."""
     pairs = zip(real.ravel().tolist(), imaginary.ravel().tolist())
     return [[_part(re), _part(im)] if im else _part(re) for re, im in pairs]
