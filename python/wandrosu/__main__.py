@@ -1,4 +1,4 @@
-"""``python -m wandrosu map COMMAND FILES..``, ``check COMMAND FILES..`` and ``which``."""
+"""``python -m wandrosu map COMMAND FILES..``, ``check COMMAND FILES..``, ``faults`` and ``which``."""
 
 from __future__ import annotations
 
@@ -8,14 +8,14 @@ from pathlib import Path
 from typing import List, Optional
 
 from . import many, schema
-from .errors import WandrosuError
+from .errors import FAULTS, WandrosuError, fault_of
 from .program import checksum, find_program
 
 
 def parser() -> argparse.ArgumentParser:
     """The words of the command line."""
     top = argparse.ArgumentParser(prog="python -m wandrosu", description="Exact tensor networks: many documents at once, and their forms.")
-    commands = top.add_subparsers(dest="task", required=True, metavar="map|check|which")
+    commands = top.add_subparsers(dest="task", required=True, metavar="map|check|faults|which")
     run = commands.add_parser("map", help="run a command over many documents", description=many.__doc__)
     run.add_argument("command", choices=many.COMMANDS)
     run.add_argument("files", nargs="+", type=Path, metavar="FILE", help="documents; a folder stands for its *.json")
@@ -27,6 +27,9 @@ def parser() -> argparse.ArgumentParser:
     check = commands.add_parser("check", help="say where the form of documents is wrong", description=schema.__doc__)
     check.add_argument("command", choices=[name for name in schema.COMMANDS if name != "gen"] + list(schema.NAMES))
     check.add_argument("files", nargs="+", type=Path, metavar="FILE")
+    known = commands.add_parser("faults", help="what the faults of documents are and what usually causes them")
+    known.add_argument("codes", nargs="*", type=int, metavar="CODE", help="numbers of faults, as 16 for F16; all without")
+    known.add_argument("--markdown", action="store_true", help="print a table")
     commands.add_parser("which", help="say which program is found, and of which release it is")
     return top
 
@@ -36,6 +39,8 @@ def main(words: Optional[List[str]] = None) -> int:
     given = parser().parse_args(words)
     if given.task == "which":
         return _which()
+    if given.task == "faults":
+        return _faults(given.codes or sorted(FAULTS), given.markdown)
     files = [file for path in given.files for file in (sorted(path.glob("*.json")) if path.is_dir() else [path])]
     try:
         return _map(given, files) if given.task == "map" else _check(given.command, files)
@@ -69,6 +74,17 @@ def _check(command: str, files: List[Path]) -> int:
             print(f"{file}: {problem}")
     print(f"{len(files) - wrong} right, {wrong} wrong")
     return 1 if wrong else 0
+
+
+def _faults(codes: List[int], markdown: bool) -> int:
+    if markdown:
+        print("| Code | Name | What is wrong | Usual cause |\n|---|---|---|---|")
+    for fault in map(fault_of, codes):
+        if markdown:
+            print(f"| F{fault.code} | {fault.name} | {fault.says} | {fault.usual} |")
+        else:
+            print(f"F{fault.code} {fault.name}: {fault.says}\n  usual cause: {fault.usual}")
+    return 0
 
 
 def _which() -> int:

@@ -82,7 +82,7 @@ class Refused(WandrosuError):
 
 def _again(kind: type, args: Tuple[Any, ...], fields: Dict[str, Any]) -> Exception:
     """An exception as it was; exceptions come back from other processes so."""
-    error = kind.__new__(kind, *args)
+    error: Exception = kind.__new__(kind, *args)
     error.args = args
     error.__dict__.update(fields)
     return error

@@ -57,7 +57,9 @@ class Gaussian:
 
     def __add__(self, other: Any) -> "Gaussian":
         other = _operand(other)
-        return NotImplemented if other is None else Gaussian(self.re + other.re, self.im + other.im)
+        if other is None:
+            return NotImplemented
+        return Gaussian(self.re + other.re, self.im + other.im)
 
     __radd__ = __add__
 
@@ -66,7 +68,9 @@ class Gaussian:
 
     def __sub__(self, other: Any) -> "Gaussian":
         other = _operand(other)
-        return NotImplemented if other is None else Gaussian(self.re - other.re, self.im - other.im)
+        if other is None:
+            return NotImplemented
+        return Gaussian(self.re - other.re, self.im - other.im)
 
     def __rsub__(self, other: Any) -> "Gaussian":
         return (-self).__add__(other)
