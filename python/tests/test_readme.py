@@ -2,7 +2,6 @@
 
 import contextlib
 import io
-import os
 import re
 import shutil
 from pathlib import Path
@@ -32,7 +31,13 @@ def test_examples_print_what_the_readme_says(tmp_path, monkeypatch):
         with contextlib.redirect_stdout(out):
             exec(compile(code, f"{README}:{line}", "exec"), names)
         assert out.getvalue() == wanted, f"the example at line {line}"
-    assert os.path.exists("hopping_chain.svg")
+    drawn, kept = tmp_path / "hopping_chain.svg", README.parent.parent / "docs" / "hopping_chain.svg"
+    assert words_of(drawn) == words_of(kept)
+
+
+def words_of(picture):
+    """What is written in a picture."""
+    return sorted(re.findall(r"<text[^>]*>([^<]*)</text>", picture.read_text(encoding="utf-8")))
 
 
 def test_the_first_example_has_ten_lines_and_prints():
