@@ -119,6 +119,14 @@ def test_other_commands(tmp_path):
     assert main(["map", "expect", "--workers", "2", "--again", str(tmp_path / "s.json")]) == 0
 
 
+@pytest.mark.parametrize("address", ["nowhere", "tcp://127.0.0.1:1", "tcp://127.0.0.1:99999"])
+def test_no_cluster(tmp_path, capsys, address):
+    pytest.importorskip("distributed")
+    paths = documents(tmp_path, 1)
+    assert main(["map", "contract", "--cluster", address, str(paths[0])]) == 1
+    assert f"no cluster answers at {address}" in capsys.readouterr().err
+
+
 def test_forms_of_files(tmp_path, capsys):
     paths = documents(tmp_path, 5)
     assert main(["check", "contract", str(tmp_path)]) == 1
@@ -133,7 +141,7 @@ def test_a_cluster_of_two_workers(tmp_path, capsys, monkeypatch):
     paths = documents(folder, 25)
     monkeypatch.setenv("PYTHONPATH", str(PACKAGE))
     with distributed.LocalCluster(n_workers=2, threads_per_worker=2, processes=True, dashboard_address=None) as cluster:
-        with distributed.Client(cluster) as client:
+        with distributed.Client(cluster, set_as_default=False) as client:
             pids = client.run(os.getpid)
             assert len(set(pids.values()) - {os.getpid()}) == 2
             assert main(["map", "contract", "--cluster", cluster.scheduler_address, str(folder)]) == 1

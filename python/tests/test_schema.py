@@ -16,7 +16,8 @@ from wandrosu import Malformed, Refused, run, schema
 from wandrosu.program import as_bytes
 
 jsonschema = pytest.importorskip("jsonschema")
-EXAMPLES = Path(__file__).resolve().parents[2] / "examples"
+TOP = Path(__file__).resolve().parents[2]
+EXAMPLES, SUITE = TOP / "examples", TOP / "suite"
 IN_TREE = pytest.mark.skipif(not EXAMPLES.is_dir(), reason="not in the repository")
 
 
@@ -49,9 +50,24 @@ def agree(jobs):
     return [said for said, _, _ in rows]
 
 
+def suite_jobs(count):
+    """Commands with random documents of the suite's generator; the commands take turns."""
+    sys.path.insert(0, str(SUITE))
+    from randoms import Random
+
+    for seed in range(count):
+        draw = Random(random.Random(seed))
+        if seed % 2:
+            yield ["contract", "plan"][seed // 2 % 2], draw.network()
+        else:
+            yield ["mpo", "overlap", "expect"][seed // 2 % 3], draw.states()
+
+
 def test_two_thousand_random_documents():
+    """Those of the suite's generator where the suite is there, and of the one of these tests."""
+    jobs = list(suite_jobs(2000)) if (SUITE / "randoms.py").exists() else []
     rnd = random.Random(20)
-    jobs = [random_document(rnd) for _ in range(2000)]
+    jobs += [random_document(rnd) for _ in range(500 if jobs else 2000)]
     got = agree(jobs)
     assert sum(isinstance(said, str) for said in got) > 1600
 
@@ -116,7 +132,7 @@ def test_faults_other_than_form_are_no_reason_to_miss_the_place():
 @IN_TREE
 def test_all_examples():
     seen = 0
-    for path in sorted(EXAMPLES.glob("**/*.json")):
+    for path in sorted([*EXAMPLES.glob("**/*.json"), *SUITE.glob("cases/**/*.json")]):
         for wanted in path.parent.glob(path.stem + ".*"):
             command = wanted.suffix[1:]
             if command not in schema.COMMANDS:

@@ -103,8 +103,8 @@ class Malformed(Refused, ValueError):
         fault = fault_of(self.code)
         self.name, self.says, self.usual = fault.name, fault.says, fault.usual
         self.place = at or fault.place(command, self.tensor, self.part, self.item)
-        colon = f"{self.place}: " if self.place else ""
-        words = f"F{self.code} {self.name}: {colon}{self.says}\n  usual cause: {self.usual}"
+        said = [self.place] if at else [self.place, self.says]
+        words = f"F{self.code} {self.name}: {': '.join(filter(None, said))}\n  usual cause: {self.usual}"
         super().__init__(words, status, line)
 
 

@@ -10,6 +10,7 @@ from __future__ import annotations
 
 import importlib
 import os
+import socket
 import sys
 import time
 from concurrent.futures import FIRST_COMPLETED, Future, ThreadPoolExecutor, wait
@@ -108,6 +109,7 @@ class Cluster:
 
     def __init__(self, address: str) -> None:
         self.distributed: Any = importlib.import_module("distributed")
+        _knock(address)
         self.client = self.distributed.Client(address, set_as_default=False)
         programs: Dict[str, str] = self.client.run(checksum, on_error="return")
         bad = {worker: str(e) for worker, e in programs.items() if not isinstance(e, str)}
@@ -126,11 +128,21 @@ class Cluster:
 
     def first(self, pending: Iterable[Any]) -> Tuple[List[Any], List[Any]]:
         """Those that are finished, once some are, and the rest."""
-        finished, rest = self.distributed.wait(list(pending), return_when="FIRST_COMPLETED")
+        with self.client.as_current():
+            finished, rest = self.distributed.wait(list(pending), return_when="FIRST_COMPLETED")
         return list(finished), list(rest)
 
     def close(self) -> None:
         self.client.close()
+
+
+def _knock(address: str) -> None:
+    """Raises `WandrosuError` where nothing listens at an address such as tcp://host:8786; Dask waits long for that."""
+    host, _, port = address.split("://")[-1].split("/")[0].rpartition(":")
+    try:
+        socket.create_connection((host.strip("[]"), int(port)), timeout=15).close()
+    except (OSError, ValueError, OverflowError) as failure:
+        raise WandrosuError(f"no cluster answers at {address}, which is to be as tcp://host:8786: {failure}") from None
 
 
 def answers(engine: Any, command: str, paths: Sequence[Path], workers: Optional[int] = None) -> Iterator[Answer]:

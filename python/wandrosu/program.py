@@ -97,6 +97,6 @@ def _wrong_form(command: str, text: bytes) -> str:
 
     try:
         problems = schema.problems(text, command)
-    except (ImportError, ValueError, RecursionError):
+    except (ImportError, OSError, ValueError, RecursionError):
         return ""
     return problems[0] if problems else ""
