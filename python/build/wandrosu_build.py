@@ -29,8 +29,8 @@ def project():
 def metadata():
     """The wheel's METADATA."""
     fields = project()
-    lines = ["Metadata-Version: 2.1", "Name: wandrosu", f"Version: {fields['version']}", f"Summary: {fields['description']}"]
-    lines.append(f"Requires-Python: {fields['requires-python']}")
+    lines = ["Metadata-Version: 2.1", "Name: wandrosu", f"Version: {fields['version']}"]
+    lines += [f"Summary: {fields['description']}", f"Requires-Python: {fields['requires-python']}"]
     lines += [f"Requires-Dist: {item}" for item in fields["dependencies"]]
     for name, items in fields["extras"].items():
         lines += [f"Provides-Extra: {name}"] + [f'Requires-Dist: {item} ; extra == "{name}"' for item in items]
@@ -57,7 +57,8 @@ def write_wheel(folder, files, tag="py3-none-any", programs=(), notes=None):
     contents = dict(files)
     contents.update({f"{info}/{name}": text.encode("utf-8") for name, text in (notes or {}).items()})
     contents[f"{info}/METADATA"] = metadata().encode("utf-8")
-    contents[f"{info}/WHEEL"] = f"Wheel-Version: 1.0\nGenerator: wandrosu\nRoot-Is-Purelib: {pure}\nTag: {tag}\n".encode()
+    lines = ["Wheel-Version: 1.0", "Generator: wandrosu", f"Root-Is-Purelib: {pure}", f"Tag: {tag}"]
+    contents[f"{info}/WHEEL"] = "".join(line + "\n" for line in lines).encode()
     rows = [f"{name},sha256={_digest(data)},{len(data)}" for name, data in sorted(contents.items())]
     contents[f"{info}/RECORD"] = ("\n".join(rows) + f"\n{info}/RECORD,,\n").encode()
     name = f"wandrosu-{version}-{tag}.whl"

@@ -46,7 +46,11 @@ def random_sites(rnd):
     kind = rnd.choice(["fermion", "spin_half", "electron", "own"])
     count = rnd.randint(1, 4)
     if kind != "own":
-        operators = {"fermion": ["N", "C", "Cdag", "I"], "spin_half": ["Z", "Sp", "Sm"], "electron": ["Nup", "Ndn", "Cup", "Cdagup", "Cdn", "Cdagdn"]}
+        operators = {
+            "fermion": ["N", "C", "Cdag", "I"],
+            "spin_half": ["Z", "Sp", "Sm"],
+            "electron": ["Nup", "Ndn", "Cup", "Cdagup", "Cdn", "Cdagdn"],
+        }
         return [Site(kind)] * count, operators[kind]
     leg = Leg("out", [(0, 1), (1, rnd.randint(1, 2))], rnd.choice([F, B]))
     n = leg.dim
@@ -101,7 +105,9 @@ WRONG = [None, True, 2.0, -1, 5, 2**63, "x", "12", "out", [], {}, [1], [[0], 1],
 
 def places(document, path=()):
     """The paths to all values of a document."""
-    items = document.items() if isinstance(document, dict) else enumerate(document) if isinstance(document, list) else ()
+    items = (
+        document.items() if isinstance(document, dict) else enumerate(document) if isinstance(document, list) else ()
+    )
     for key, value in items:
         yield path + (key,)
         yield from places(value, path + (key,))

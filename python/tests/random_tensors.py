@@ -9,7 +9,17 @@ from hypothesis import strategies as st
 from wandrosu import U1, Gaussian, Group, Leg, Network, Tensor, Zn
 
 F, B = U1(fermion=True), U1()
-GROUPS = [Group(), B, F, Zn(2, fermion=True), Zn(3), Zn(4, fermion=True), F * B, Zn(2, fermion=True) * Zn(3), F * F * B * Zn(2)]
+GROUPS = [
+    Group(),
+    B,
+    F,
+    Zn(2, fermion=True),
+    Zn(3),
+    Zn(4, fermion=True),
+    F * B,
+    Zn(2, fermion=True) * Zn(3),
+    F * F * B * Zn(2),
+]
 
 seeds = st.integers(0, 2**32 - 1)
 

@@ -74,7 +74,10 @@ def test_floats_are_taken_at_their_exact_value():
 
 
 def test_off_flux_is_told_with_its_place():
-    with pytest.raises(OffFlux, match=r"off flux: the entry 7 at \[1,0\] \(sectors \[1,0\]\) has the charge 1, out less in, and the flux is 0") as told:
+    with pytest.raises(
+        OffFlux,
+        match=r"off flux: the entry 7 at \[1,0\] \(sectors \[1,0\]\) has the charge 1, out less in, and the flux is 0",
+    ) as told:
         Tensor.from_array([[2, 0], [7, 3]], [LEG, LEG.turned()])
     assert (told.value.place, told.value.tuple, told.value.charge, told.value.flux) == ((1, 0), (1, 0), (1,), (0,))
     with pytest.raises(OffFlux) as told:
@@ -143,8 +146,21 @@ def test_numbers():
     z = Gaussian(2, -3)
     assert (z + 1, z - 1, 1 - z, z * z, -z, 2 * z) == (3 - 3j, 1 - 3j, -1 + 3j, -5 - 12j, -2 + 3j, 4 - 6j)
     assert hash(Gaussian(5)) == hash(5) and hash(z) == hash(2 - 3j) and Gaussian(2**200, 1) != 5
-    assert [str(n) for n in (Gaussian(0), Gaussian(-4), Gaussian(0, 1), Gaussian(0, -1), z, Gaussian(1, 1))] == ["0", "-4", "i", "-i", "2-3i", "1+i"]
-    assert (int(Gaussian(7)), float(Gaussian(7)), complex(z), abs(Gaussian(3, 4)), z.magnitude) == (7, 7.0, 2 - 3j, 5.0, 5)
+    assert [str(n) for n in (Gaussian(0), Gaussian(-4), Gaussian(0, 1), Gaussian(0, -1), z, Gaussian(1, 1))] == [
+        "0",
+        "-4",
+        "i",
+        "-i",
+        "2-3i",
+        "1+i",
+    ]
+    assert (int(Gaussian(7)), float(Gaussian(7)), complex(z), abs(Gaussian(3, 4)), z.magnitude) == (
+        7,
+        7.0,
+        2 - 3j,
+        5.0,
+        5,
+    )
     with pytest.raises(TypeError):
         int(z)
     with pytest.raises(AttributeError):

@@ -70,7 +70,9 @@ def test_tv_chain_against_a_float_sum_over_basis_states(periodic):
     assert expect(bra, chain, ket, workers=3) == wanted
     assert overlap(bra, ket) == np.vdot(bra_floats, ket_floats)
     domain, hopped = (1, 1, 1, 0, 0, 0), (1, 1, 0, 1, 0, 0)
-    assert expect(ProductState(chain.sites, hopped), chain, ProductState(chain.sites, domain)) == tv_element(hopped, domain, bonds, t, v)
+    assert expect(ProductState(chain.sites, hopped), chain, ProductState(chain.sites, domain)) == tv_element(
+        hopped, domain, bonds, t, v
+    )
 
 
 def test_matrix_of_a_sum():
@@ -139,7 +141,12 @@ def test_terms_as_one_writes_them():
 def test_sites_of_ones_own():
     leg = Leg("out", [(2, 1), (0, 1), (-2, 1)], B)
     raising = [[0, 1, 0], [0, 0, 1], [0, 0, 0]]
-    spin = Site("own", leg, {"Sp": (2, raising), "Sm": (-2, np.transpose(raising)), "Z": (0, np.diag([1, 0, -1]))}, ["+", "0", "-"])
+    spin = Site(
+        "own",
+        leg,
+        {"Sp": (2, raising), "Sm": (-2, np.transpose(raising)), "Z": (0, np.diag([1, 0, -1]))},
+        ["+", "0", "-"],
+    )
     heisenberg = OperatorSum([spin] * 2, [(1, "Z", 1, "Z", 2), (1, "Sp", 1, "Sm", 2), (1, "Sm", 1, "Sp", 2)])
     levels = np.linalg.eigvalsh(heisenberg.matrix(dtype=float))
     assert np.allclose(sorted(set(np.round(levels, 9))), [-2, -1, 1])
@@ -196,7 +203,12 @@ def test_states_with_given_links():
         State.from_arrays(arrays, ["fermion"] * 2, flux=2)
     with pytest.raises(OffFlux, match=r"site 1: the entry 3 at \[1,0\]"):
         State.from_arrays([np.array([[1, 0], [3, 1]]), arrays[1]], ["fermion"] * 2)
-    for wrong in ([arrays[0]], [arrays[0], np.zeros((3, 2))], [arrays[0], np.zeros((2, 2, 2))], [np.zeros((3, 2)), arrays[1]]):
+    for wrong in (
+        [arrays[0]],
+        [arrays[0], np.zeros((3, 2))],
+        [arrays[0], np.zeros((2, 2, 2))],
+        [np.zeros((3, 2)), arrays[1]],
+    ):
         with pytest.raises(WrongShape):
             State.from_arrays(wrong, ["fermion"] * 2)
     single = State.from_arrays([np.array([0, 3])], ["fermion"])

@@ -43,7 +43,10 @@ def test_a_wrong_entry():
     found = compare(array, tensor)
     assert (found.agrees, found.where, found.wrong, found.signs_alone) == (False, place, 1, False)
     assert found.greatest == 0.25 and found.exact == 3 and found.found == 3.25
-    assert str(found) == f"differs in 1 of 64 entries\nthe greatest difference is 0.25 at [{place[0]},{place[1]},{place[2]}]: found 3.25, exact 3"
+    assert (
+        str(found) == "differs in 1 of 64 entries\n"
+        f"the greatest difference is 0.25 at [{place[0]},{place[1]},{place[2]}]: found 3.25, exact 3"
+    )
     assert compare(array, tensor, relative=0.1)
 
 
@@ -52,7 +55,9 @@ def flip(tensor, odd):
     array = tensor.to_array(float)
     for sectors in tensor.blocks:
         if odd(*tensor.parities(sectors)):
-            window = tuple(slice(leg.starts[s], leg.starts[s] + leg.sectors[s][1]) for leg, s in zip(tensor.legs, sectors))
+            window = tuple(
+                slice(leg.starts[s], leg.starts[s] + leg.sectors[s][1]) for leg, s in zip(tensor.legs, sectors)
+            )
             array[window] *= -1
     return array
 
@@ -119,7 +124,10 @@ def test_conjugates_and_numbers():
     tensor = Tensor.from_array([1 + 2j, 3], [leg])
     assert "complex conjugates" in str(compare([1 - 2j, 3], tensor))
     assert compare(2.0 + 7j, Gaussian(2, 7)) and not compare(2.0 - 7j, Gaussian(2, 7))
-    assert str(compare(-5.0, 5)) == "differs\nthe greatest difference is 10: found -5, exact 5\nsigns alone differ (every entry is negated)"
+    assert (
+        str(compare(-5.0, 5))
+        == "differs\nthe greatest difference is 10: found -5, exact 5\nsigns alone differ (every entry is negated)"
+    )
     assert compare(np.array([1.0, 2.0]), np.array([1, 2]))
     assert compare(0.0, 0) and not compare(1e-9, 0)
     assert compare(float(2**100), 2**100)

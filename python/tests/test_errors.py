@@ -9,7 +9,18 @@ import pytest
 from wrong_documents import FAULTS, N, network, sum_of, tensor
 
 import wandrosu
-from wandrosu import Malformed, Network, OutOfMemory, Passed, ProgramDied, ProgramNotFound, Refused, UsageFault, find_program, run
+from wandrosu import (
+    Malformed,
+    Network,
+    OutOfMemory,
+    Passed,
+    ProgramDied,
+    ProgramNotFound,
+    Refused,
+    UsageFault,
+    find_program,
+    run,
+)
 from wandrosu.errors import FAULTS as KNOWN
 from wandrosu.errors import fault_of
 
@@ -102,5 +113,10 @@ def test_where_the_program_is_looked_for(tmp_path, monkeypatch, program):
 
 
 def test_gen_and_text():
-    assert json.loads(run("gen", seed=7)) == {"cost": 37176, "scalar": ["-1988538497530626", "0"], "sites": 15, "steps": 44}
+    assert json.loads(run("gen", seed=7)) == {
+        "cost": 37176,
+        "scalar": ["-1988538497530626", "0"],
+        "sites": 15,
+        "steps": 44,
+    }
     assert run("mpo", sum_of([N])).endswith("}\n")

@@ -16,7 +16,13 @@ from wandrosu.__main__ import main
 from wandrosu.program import as_bytes
 
 PACKAGE = Path(many.__file__).resolve().parent.parent
-FEW = [network(tensor()), network(tensor(labels=[1, 1])), network(tensor(blocks=[])), network(tensor(labels=[-1, 7])), sum_of([N])]
+FEW = [
+    network(tensor()),
+    network(tensor(labels=[1, 1])),
+    network(tensor(blocks=[])),
+    network(tensor(labels=[-1, 7])),
+    sum_of([N]),
+]
 
 
 def documents(folder, count):
@@ -62,7 +68,9 @@ def test_answered_documents_are_passed_over(tmp_path, capsys):
     assert main(["map", "contract", str(tmp_path)]) == 1
     now = {p.name: p.stat().st_ino for p in tmp_path.glob("*.contract*")}
     assert (tmp_path / "n003.contract").exists() and not (tmp_path / "n003.contract.refused").exists()
-    assert {name: now[name] for name in ("n001.contract", "n002.contract")} == {name: first[name] for name in ("n001.contract", "n002.contract")}
+    assert {name: now[name] for name in ("n001.contract", "n002.contract")} == {
+        name: first[name] for name in ("n001.contract", "n002.contract")
+    }
     assert "4 done, 1 refused, 0 failed" in capsys.readouterr().out
     paths[4].unlink()
     assert main(["map", "contract", *map(str, paths)]) == 1
@@ -85,7 +93,7 @@ def test_failures_are_tried_again(tmp_path, monkeypatch, capsys, program):
 def slow_program(folder, program):
     """The program, which waits a while first."""
     path = folder / "slow"
-    path.write_text(f"#!/bin/sh\nsleep 0.05\nexec {program} \"$@\"\n")
+    path.write_text(f'#!/bin/sh\nsleep 0.05\nexec {program} "$@"\n')
     path.chmod(0o755)
     return str(path)
 

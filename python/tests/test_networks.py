@@ -52,8 +52,16 @@ def test_files(tmp_path):
 
 def test_words_about_objects():
     assert repr(LEG) == "Leg('out', [(0, 1), (1, 1)], U1(fermion=True))"
-    assert repr(EYE) == "Tensor(out 2, in 2; flux 0; 2 blocks)" and repr(Network([(EYE, [1, 1])])) == "Network(1 tensors, 1 bonds, 0 open legs)"
-    assert EYE[1, 1] == 3 and EYE[0, 1] == 0 and EYE.block((1, 1)).tolist() == [[3]] and EYE.block((0, 1)).tolist() == [[0]]
+    assert (
+        repr(EYE) == "Tensor(out 2, in 2; flux 0; 2 blocks)"
+        and repr(Network([(EYE, [1, 1])])) == "Network(1 tensors, 1 bonds, 0 open legs)"
+    )
+    assert (
+        EYE[1, 1] == 3
+        and EYE[0, 1] == 0
+        and EYE.block((1, 1)).tolist() == [[3]]
+        and EYE.block((0, 1)).tolist() == [[0]]
+    )
     with pytest.raises(TypeError):
         EYE.scalar()
     with pytest.raises(ValueError, match="'out' or 'in'"):

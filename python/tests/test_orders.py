@@ -43,7 +43,9 @@ def test_costs_before_and_after():
     assert found.after.cost < found.before.cost and found.network.contract() == network.contract()
     assert (found.before, found.after) == (network.plan(), found.network.plan())
     assert str(found).startswith(f"cost {found.before.cost:,} before and {found.after.cost:,} after, ")
-    assert str(network.reordered(network.labels)) == f"cost {found.before.cost:,} before and {found.before.cost:,} after"
+    assert (
+        str(network.reordered(network.labels)) == f"cost {found.before.cost:,} before and {found.before.cost:,} after"
+    )
 
 
 def test_paths_as_numpy_gives_them():
@@ -67,7 +69,12 @@ def test_steps_of_three_operands_and_outer_products():
     far = labels_of_path(network, [(0, 5), (0, 1), (0, 1), (0, 1), (0, 1)])
     assert sorted(far) == network.labels
     leg = Leg("out", [(0, 1), (1, 1)], F)
-    traced = Network([(filled_tensor(random.Random(1), [leg, leg.turned(), leg], F, flux=(1,)), [2, 2, 1]), (filled_tensor(random.Random(2), [leg.turned()], F, flux=(-1,)), [1])])
+    traced = Network(
+        [
+            (filled_tensor(random.Random(1), [leg, leg.turned(), leg], F, flux=(1,)), [2, 2, 1]),
+            (filled_tensor(random.Random(2), [leg.turned()], F, flux=(-1,)), [1]),
+        ]
+    )
     assert traced.with_order("numpy").order == (2, 1)
 
 

@@ -16,7 +16,14 @@ EVEN = Leg("out", [(0, 2)], F)
 
 def small():
     odd = Tensor([LEG], 1, {(1,): [1]})
-    return Network([(Combiner("out", [LEG], "fuse"), [1, 2]), (odd, [2]), (Tensor([Leg("in", [(0, 1), (1, 1)], F), EVEN], -1, {(1, 0): [[1, 2]]}), [1, -1])], twist=[2])
+    return Network(
+        [
+            (Combiner("out", [LEG], "fuse"), [1, 2]),
+            (odd, [2]),
+            (Tensor([Leg("in", [(0, 1), (1, 1)], F), EVEN], -1, {(1, 0): [[1, 2]]}), [1, -1]),
+        ],
+        twist=[2],
+    )
 
 
 def edges(dot):
@@ -27,14 +34,16 @@ def edges(dot):
 def test_lines_go_from_out_to_in():
     lines = edges(small().picture().dot)
     assert set(lines) == {("t1", "t3"), ("t2", "t1"), ("t3", "o1")}
-    assert pictures.ODD in lines["t1", "t3"] and pictures.ODD in lines["t2", "t1"] and pictures.EVEN in lines["t3", "o1"]
+    assert (
+        pictures.ODD in lines["t1", "t3"] and pictures.ODD in lines["t2", "t1"] and pictures.EVEN in lines["t3", "o1"]
+    )
     assert "dashed" in lines["t2", "t1"] and "dashed" not in lines["t1", "t3"]
     assert "dim 2" in lines["t1", "t3"]
 
 
 def test_members_are_marked():
     dot = small().picture().dot
-    assert re.search(r"t1 \[.*peripheries=1.*fuse", dot) and re.search(r"t2 \[.*peripheries=2.*flux 1", dot)
+    assert re.search(r't1 \[.*fuse.*peripheries="1"', dot) and re.search(r't2 \[.*flux 1.*peripheries="2"', dot)
     assert "thick red" in dot and "double frame" in dot and "twisted line" in dot
     assert "thick red" not in small().picture(caption=False).dot
     assert "0:1 1:1" in small().picture(sectors=True).dot
@@ -47,7 +56,10 @@ def test_steps_with_their_costs():
     dot = plan.picture().dot
     assert len(edges(dot)) == 0 and len(re.findall(r"\w+ -> s\d", dot)) == 2 * len(plan.steps)
     for number, step in enumerate(plan.steps, 1):
-        assert re.search(rf"s{number} \[.*<b>{number}</b> {step.kind}.*labels {', '.join(map(str, step.labels))}<.*cost {step.cost:,}", dot)
+        assert re.search(
+            rf"s{number} \[.*<b>{number}</b> {step.kind}.*labels {', '.join(map(str, step.labels))}<.*cost {step.cost:,}",
+            dot,
+        )
     assert "bra 1*" in dot and "W 2" in dot and "ket 3" in dot
 
 

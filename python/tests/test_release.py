@@ -60,7 +60,16 @@ def test_what_both_tell(release):
     assert rows["commit:"].startswith(commit) and rows["toolchain:"] == TOOLCHAIN
     assert rows["gate:"] == GATE and rows["sha256:"].split()[0] == checksum
     share = {"share/man/man1/qntn.1", "share/bash-completion/completions/qntn", "share/zsh/site-functions/_qntn"}
-    assert names >= {"bin/qntn", "share/doc/wandrosu/docs/FORMAT.md", "share/doc/wandrosu/docs/schema/sum.json", "share/doc/wandrosu/examples/trace.json"} | share
+    assert (
+        names
+        >= {
+            "bin/qntn",
+            "share/doc/wandrosu/docs/FORMAT.md",
+            "share/doc/wandrosu/docs/schema/sum.json",
+            "share/doc/wandrosu/examples/trace.json",
+        }
+        | share
+    )
 
 
 def test_the_tag_is_what_the_program_needs(release):
@@ -77,7 +86,9 @@ def test_the_same_files_give_the_same_bytes(release, tmp_path):
         assert made.read_bytes() == (tmp_path / made.name).read_bytes()
 
 
-@pytest.mark.parametrize("gate", ["3 passed, 1 failed", "0 passed, 0 failed", "passed", "", "3 passed, 0 failed, 2 skipped"])
+@pytest.mark.parametrize(
+    "gate", ["3 passed, 1 failed", "0 passed, 0 failed", "passed", "", "3 passed, 0 failed, 2 skipped"]
+)
 def test_a_gate_that_did_not_pass_is_refused(gate, tmp_path):
     made = make(tmp_path / "out", gate)
     assert made.returncode != 0 and "the gate's last line isn't 'N passed, 0 failed'" in made.stderr
@@ -107,7 +118,9 @@ def test_other_programs_are_refused(tmp_path):
 def environment(release, tmp_path_factory):
     """A fresh virtual environment with the wheel, and the words to run its Python without the tree on PATH."""
     folder = tmp_path_factory.mktemp("environment")
-    made = subprocess.run([sys.executable, "-m", "venv", "--system-site-packages", str(folder / "env")], capture_output=True, text=True)
+    made = subprocess.run(
+        [sys.executable, "-m", "venv", "--system-site-packages", str(folder / "env")], capture_output=True, text=True
+    )
     if made.returncode != 0:
         pytest.skip("no venv: " + made.stdout.strip()[:200])
     python = folder / "env" / "bin" / "python"
@@ -127,9 +140,13 @@ def test_the_wheel_in_a_fresh_environment(environment):
     _, code, wanted = next(blocks(README.read_text(encoding="utf-8")))
     ran = subprocess.run([str(python), "-c", code], capture_output=True, text=True, env=bare(), cwd=folder)
     assert (ran.stdout, ran.stderr) == (wanted, "")
-    which = subprocess.run([str(python), "-m", "wandrosu", "which"], capture_output=True, text=True, env=bare(), cwd=folder)
+    which = subprocess.run(
+        [str(python), "-m", "wandrosu", "which"], capture_output=True, text=True, env=bare(), cwd=folder
+    )
     assert which.stdout.splitlines()[0].startswith(str(folder / "env")) and f"gate:      {GATE}" in which.stdout
-    form = "from wandrosu import run\ntry: run('plan', {'group': 1, 'tensors': []})\nexcept Exception as e: print(e.place)"
+    form = (
+        "from wandrosu import run\ntry: run('plan', {'group': 1, 'tensors': []})\nexcept Exception as e: print(e.place)"
+    )
     ran = subprocess.run([str(python), "-c", form], capture_output=True, text=True, env=bare(), cwd=folder)
     wanted = "at group: 1 isn't a list of at most four factors" if importlib.util.find_spec("jsonschema") else ""
     assert ran.stdout == wanted + "\n"
@@ -172,7 +189,8 @@ def test_completion_for_bash(words, wanted):
     if shutil.which("bash") is None:
         pytest.skip("no bash")
     quoted = " ".join(f'"{word}"' for word in words)
-    script = f'. "{TOP}/release/completions/qntn.bash"; COMP_WORDS=({quoted}); COMP_CWORD={len(words) - 1}; _qntn; echo "${{COMPREPLY[*]}}"'
+    source = f'. "{TOP}/release/completions/qntn.bash"'
+    script = f'{source}; COMP_WORDS=({quoted}); COMP_CWORD={len(words) - 1}; _qntn; echo "${{COMPREPLY[*]}}"'
     assert subprocess.run(["bash", "-c", script], capture_output=True, text=True).stdout.strip() == wanted
 
 

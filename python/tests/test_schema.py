@@ -81,8 +81,24 @@ def test_documents_that_were_changed():
 
 
 BASES = [
-    ("contract", network(tensor([OUT], [1], [1], [[[1], [[1, "2"]]]]), {"combine": {"dir": "out", "legs": [OUT], "mode": "fuse"}, "labels": [-1, 1]}, order=[1], version=1)),
-    ("mpo", sum_of([N], sites=1, site=own([[[0], 1]], A={"charge": [0], "table": [[1]]}), group=[{"kind": "zn", "n": 2, "fermion": True}])),
+    (
+        "contract",
+        network(
+            tensor([OUT], [1], [1], [[[1], [[1, "2"]]]]),
+            {"combine": {"dir": "out", "legs": [OUT], "mode": "fuse"}, "labels": [-1, 1]},
+            order=[1],
+            version=1,
+        ),
+    ),
+    (
+        "mpo",
+        sum_of(
+            [N],
+            sites=1,
+            site=own([[[0], 1]], A={"charge": [0], "table": [[1]]}),
+            group=[{"kind": "zn", "n": 2, "fermion": True}],
+        ),
+    ),
     ("expect", states(terms=[N])),
 ]
 
@@ -98,9 +114,26 @@ def test_every_place_with_every_wrong_value():
 
 
 TEXTS = [
-    ("1e0", 3), ("1.0", 3), ("-0", 3), ("0", None), ("-1", None), ("9223372036854775807", None), ("9223372036854775808", 3),
-    ('"9223372036854775808"', None), ('"1.5"', 19), ('"1+2j"', 19), ('"-0"', 19), ('"1\\n"', 19), ("[1]", 3), ("[1,2]", None), ("[1,2.0]", 3),
-    ('{"re":1,"im":2}', 3), ("null", 3), ("true", 3), ("[[1]]", 3), ('["1",2]', None),
+    ("1e0", 3),
+    ("1.0", 3),
+    ("-0", 3),
+    ("0", None),
+    ("-1", None),
+    ("9223372036854775807", None),
+    ("9223372036854775808", 3),
+    ('"9223372036854775808"', None),
+    ('"1.5"', 19),
+    ('"1+2j"', 19),
+    ('"-0"', 19),
+    ('"1\\n"', 19),
+    ("[1]", 3),
+    ("[1,2]", None),
+    ("[1,2.0]", 3),
+    ('{"re":1,"im":2}', 3),
+    ("null", 3),
+    ("true", 3),
+    ("[[1]]", 3),
+    ('["1",2]', None),
 ]
 
 
@@ -120,8 +153,13 @@ def test_the_last_of_two_keys_counts():
 
 def test_faults_other_than_form_are_no_reason_to_miss_the_place():
     found = schema.problems(network(tensor(blocks=[[[0, 0], [2.0]]])), "contract")
-    assert found == ["at tensors[0].blocks[0][1][0]: 2.0 isn't a whole number of 64 bits, a decimal as a text, or a pair [real, imaginary] of these; no float"]
-    assert schema.problems(network(tensor(flux=[])), "plan") == ["at tensors[0].flux: [] isn't one whole number for each factor of the group, which has 1"]
+    assert found == [
+        "at tensors[0].blocks[0][1][0]: 2.0 isn't a whole number of 64 bits, a decimal as a text, "
+        "or a pair [real, imaginary] of these; no float"
+    ]
+    assert schema.problems(network(tensor(flux=[])), "plan") == [
+        "at tensors[0].flux: [] isn't one whole number for each factor of the group, which has 1"
+    ]
     with pytest.raises(Malformed, match=r"F3 wrong form: at tensors\[0\]: 'flux' is missing") as told:
         run("contract", without(network(tensor()), ("tensors", 0, "flux")))
     assert told.value.place == "at tensors[0]: 'flux' is missing"

@@ -14,28 +14,41 @@ from .program import checksum, find_program
 
 def parser() -> argparse.ArgumentParser:
     """The words of the command line."""
-    top = argparse.ArgumentParser(prog="python -m wandrosu", description="Exact tensor networks: many documents at once, and their forms.")
+    top = argparse.ArgumentParser(
+        prog="python -m wandrosu", description="Exact tensor networks: many documents at once, and their forms."
+    )
     commands = top.add_subparsers(dest="task", required=True, metavar="map|check|faults|which")
     run = commands.add_parser("map", help="run a command over many documents", description=many.__doc__)
     run.add_argument("command", choices=many.COMMANDS)
     run.add_argument("files", nargs="+", type=Path, metavar="FILE", help="documents; a folder stands for its *.json")
-    run.add_argument("--workers", type=int, metavar="N", help="threads of each run of the program, 1 to 64 (contract, overlap, expect)")
+    run.add_argument(
+        "--workers",
+        type=int,
+        metavar="N",
+        help="threads of each run of the program, 1 to 64 (contract, overlap, expect)",
+    )
     where = run.add_mutually_exclusive_group()
-    where.add_argument("--processes", type=int, metavar="N", help="documents at a time on this machine (as many as it has processors)")
-    where.add_argument("--cluster", metavar="ADDRESS", help="run on the Dask cluster whose scheduler is there, as tcp://host:8786")
+    where.add_argument(
+        "--processes", type=int, metavar="N", help="documents at a time on this machine (as many as it has processors)"
+    )
+    where.add_argument(
+        "--cluster", metavar="ADDRESS", help="run on the Dask cluster whose scheduler is there, as tcp://host:8786"
+    )
     run.add_argument("--again", action="store_true", help="also do what has a result already")
     check = commands.add_parser("check", help="say where the form of documents is wrong", description=schema.__doc__)
     check.add_argument("command", choices=[name for name in schema.COMMANDS if name != "gen"] + list(schema.NAMES))
     check.add_argument("files", nargs="+", type=Path, metavar="FILE")
     known = commands.add_parser("faults", help="what the faults of documents are and what usually causes them")
-    known.add_argument("codes", nargs="*", type=int, metavar="CODE", help="numbers of faults, as 16 for F16; all without")
+    known.add_argument(
+        "codes", nargs="*", type=int, metavar="CODE", help="numbers of faults, as 16 for F16; all without"
+    )
     known.add_argument("--markdown", action="store_true", help="print a table")
     commands.add_parser("which", help="say which program is found, and of which release it is")
     return top
 
 
 def main(words: Optional[List[str]] = None) -> int:
-    """Runs the command line. Status 0 where all is done or right, 1 where something isn't, 130 where it was broken off."""
+    """Runs the command line. Status 0 where all is done or right, 1 where not, 130 where it was broken off."""
     given = parser().parse_args(words)
     if given.task == "which":
         return _which()

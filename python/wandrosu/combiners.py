@@ -29,7 +29,9 @@ class Combiner:
 
     def __init__(self, direction: str, legs: Iterable[Leg], mode: str, group: Optional[Group] = None) -> None:
         if direction not in ("out", "in") or mode not in ("fuse", "split"):
-            raise ValueError(f"a combiner's direction is 'out' or 'in' and its mode 'fuse' or 'split', not {direction!r}, {mode!r}")
+            raise ValueError(
+                f"a combiner's direction is 'out' or 'in' and its mode 'fuse' or 'split', not {direction!r}, {mode!r}"
+            )
         legs = tuple(legs)
         self.group = group_of(legs, group, "combiner")
         self.direction, self.mode = direction, mode
@@ -77,7 +79,9 @@ class Combiner:
                 dims = [leg.sectors[s][1] for leg, s in zip(self.fused, sectors)]
                 table = np.eye(size, width, before, dtype=np.int64).reshape(*dims, width)
                 if self.mode == "fuse":
-                    odd = sum(group.parity(leg.sectors[s][0]) for leg, s in zip(self.fused, sectors) if leg.direction == "in")
+                    odd = sum(
+                        group.parity(leg.sectors[s][0]) for leg, s in zip(self.fused, sectors) if leg.direction == "in"
+                    )
                     blocks[(number, *sectors[::-1])] = (-1) ** odd * np.transpose(table)
                 else:
                     odd = group.parity(charge) if self.direction == "in" else 0
@@ -87,9 +91,7 @@ class Combiner:
 
     def document(self) -> Dict[str, Any]:
         """The combiner as a network writes it, without its labels."""
-        return {
-            "combine": {"dir": self.direction, "legs": [leg.document() for leg in self.fused], "mode": self.mode}
-        }
+        return {"combine": {"dir": self.direction, "legs": [leg.document() for leg in self.fused], "mode": self.mode}}
 
     @classmethod
     def from_document(cls, member: Mapping[str, Any], group: Group) -> "Combiner":
@@ -101,7 +103,12 @@ class Combiner:
     def __eq__(self, other: Any) -> bool:
         if not isinstance(other, Combiner):
             return NotImplemented
-        return (self.group, self.direction, self.mode, self.fused) == (other.group, other.direction, other.mode, other.fused)
+        return (self.group, self.direction, self.mode, self.fused) == (
+            other.group,
+            other.direction,
+            other.mode,
+            other.fused,
+        )
 
     def __hash__(self) -> int:
         return hash((self.group, self.direction, self.mode, self.fused))

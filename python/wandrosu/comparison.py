@@ -63,9 +63,13 @@ class Comparison:
     def __str__(self) -> str:
         at = f" at {_index(self.where)}" if self.where else ""
         if self.agrees:
-            return f"agrees: the greatest difference is {self.greatest:.3g}{at}, {self.relative:.3g} of the greatest entry"
+            return (
+                f"agrees: the greatest difference is {self.greatest:.3g}{at}, {self.relative:.3g} of the greatest entry"
+            )
         lines = [f"differs in {self.wrong} of {self.size} entries"] if self.size > 1 else ["differs"]
-        lines.append(f"the greatest difference is {self.greatest:.6g}{at}: found {_number(self.found)}, exact {self.exact}")
+        lines.append(
+            f"the greatest difference is {self.greatest:.6g}{at}: found {_number(self.found)}, exact {self.exact}"
+        )
         if self.conjugated:
             lines.append("all entries are the complex conjugates of the exact ones")
         if self.signs_alone:
@@ -81,8 +85,8 @@ class Comparison:
 def compare(found: Any, exact: Exact, relative: float = 1e-10) -> Comparison:
     """Compares what a floating-point code found with what is exact.
 
-    `found` is an array of the exact tensor's shape (or one number for a scalar), real or complex. `exact` is a `Tensor`,
-    a number, or an array of exact numbers. An entry agrees where it is off by at most `relative` times
+    `found` is an array of the exact tensor's shape (or one number for a scalar), real or complex. `exact` is a
+    `Tensor`, a number, or an array of exact numbers. An entry agrees where it is off by at most `relative` times
     the greatest exact entry in size (1 where all are 0), since floats lose what cancels. A wrong sign counts
     also where the entry is smaller than that. Raises `WrongShape` where the shapes differ.
     """
@@ -160,15 +164,23 @@ def _sign_blocks(tensor: Optional[Tensor], wrong: NDArray[Any], wanted: NDArray[
 
 
 def _pattern(rows: Sequence[Tuple[Tuple[int, ...], bool]]) -> str:
-    """What of one or two legs' parities tells the wrong blocks from the others: all that does; empty where nothing does."""
+    """What of one or two legs' parities tells the wrong blocks from the others: all that does, or nothing."""
     legs = range(len(rows[0][0]))
     pairs = [(i, j) for i in legs for j in legs[i + 1 :]]
     one = [f"leg {i + 1} is odd" for i in legs if all(bool(p[i]) == bad for p, bad in rows)]
-    both = [f"legs {i + 1} and {j + 1} are both odd" for i, j in pairs if all(bool(p[i] & p[j]) == bad for p, bad in rows)]
+    both = [
+        f"legs {i + 1} and {j + 1} are both odd" for i, j in pairs if all(bool(p[i] & p[j]) == bad for p, bad in rows)
+    ]
     if one or both:
-        causes = (["a turned leg's sign is missing or doubled"] if one else []) + (["odd legs are exchanged without their sign"] if both else [])
+        causes = (["a turned leg's sign is missing or doubled"] if one else []) + (
+            ["odd legs are exchanged without their sign"] if both else []
+        )
         return f"{', or '.join(one + both)} (as where {', or where '.join(causes)})"
-    differ = [f"just one of legs {i + 1} and {j + 1} is odd" for i, j in pairs if all(bool(p[i] ^ p[j]) == bad for p, bad in rows)]
+    differ = [
+        f"just one of legs {i + 1} and {j + 1} is odd"
+        for i, j in pairs
+        if all(bool(p[i] ^ p[j]) == bad for p, bad in rows)
+    ]
     return ", or ".join(differ)
 
 

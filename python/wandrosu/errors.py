@@ -9,7 +9,7 @@ from __future__ import annotations
 import json
 import re
 from pathlib import Path
-from typing import Any, Dict, List, NamedTuple, Optional, Sequence, Tuple
+from typing import Any, Dict, List, NamedTuple, Sequence, Tuple
 
 LIMIT = 2**127 - 1
 """The greatest magnitude |re| + |im| of an entry, and of every sum of magnitudes."""
@@ -54,7 +54,8 @@ class OffFlux(ArrayFault):
         if sectors is None:
             has = f"leads to the charge {_bare(charge)}, and an entry before it to {_bare(flux)}"
         else:
-            has = f"(sectors {_bracketed(sectors)}) has the charge {_bare(charge)}, out less in, and the flux is {_bare(flux)}"
+            has = f"(sectors {_bracketed(sectors)}) has the charge {_bare(charge)}, out less in, "
+            has += f"and the flux is {_bare(flux)}"
         super().__init__(f"{what}the entry {value} at {_bracketed(place)} {has}", place)
         self.value, self.tuple, self.charge, self.flux = value, sectors, charge, flux
 
@@ -219,7 +220,9 @@ FAULTS: Dict[int, Fault] = _load()
 
 def fault_of(code: int) -> Fault:
     """The fault of this number; a number that this version doesn't know has no words."""
-    return FAULTS.get(code) or Fault(code, "unknown", "this version of the package doesn't know it", {}, {}, "see FORMAT.md")
+    return FAULTS.get(code) or Fault(
+        code, "unknown", "this version of the package doesn't know it", {}, {}, "see FORMAT.md"
+    )
 
 
 def answer_error(command: str, status: int, line: str, at: str = "") -> Refused:
@@ -231,7 +234,9 @@ def answer_error(command: str, status: int, line: str, at: str = "") -> Refused:
     if status == 2 and "usage word" in line:
         return UsageFault(line, status)
     if status in (5, 6):
-        return IOFault("the program couldn't " + ("read its document" if status == 5 else "write its text"), status, line)
+        return IOFault(
+            "the program couldn't " + ("read its document" if status == 5 else "write its text"), status, line
+        )
     if status == 7:
         return OutOfMemory("memory was wanting while the program ran", status, line)
     how = f"killed by signal {-status}" if status < 0 else f"exit status {status}"

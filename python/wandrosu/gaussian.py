@@ -79,9 +79,7 @@ class Gaussian:
         other = _operand(other)
         if other is None:
             return NotImplemented
-        return Gaussian(
-            self.re * other.re - self.im * other.im, self.re * other.im + self.im * other.re
-        )
+        return Gaussian(self.re * other.re - self.im * other.im, self.re * other.im + self.im * other.re)
 
     __rmul__ = __mul__
 

@@ -1,9 +1,10 @@
 """Many documents at once: on this machine, each by a process of its own, or on a Dask cluster.
 
-The result of ``NAME.json`` stands beside it as ``NAME.COMMAND``, byte for byte what the program wrote. Where the program
-refuses the document (exit status 3 or 4), its line stands in ``NAME.COMMAND.refused``. Results are written whole or not
-at all, so a run that was broken off goes on where it stopped: a document whose result or refusal is at least as new
-as the document isn't done again.
+The result of ``NAME.json`` stands beside it as ``NAME.COMMAND``, byte for byte what the program wrote. Where the
+program refuses the document (exit status 3 or 4), its line stands in ``NAME.COMMAND.refused``. Results are written
+whole or not at all, so a run that was broken off goes on where it stopped.
+A result gets the time at which its document was last changed, so a document that was changed or replaced since is done
+again, and no other.
 """
 
 from __future__ import annotations
@@ -36,7 +37,9 @@ class Answer(NamedTuple):
     """when the document was last changed, in nanoseconds"""
 
 
-def answer_of(command: str, document: bytes, workers: Optional[int] = None, program: Optional[str] = None) -> Tuple[str, str, str]:
+def answer_of(
+    command: str, document: bytes, workers: Optional[int] = None, program: Optional[str] = None
+) -> Tuple[str, str, str]:
     """The state, the text and the words of one document. Workers of a cluster run this, each with the program that
     it finds."""
     try:
@@ -115,7 +118,9 @@ class Cluster:
         bad = {worker: str(e) for worker, e in programs.items() if not isinstance(e, str)}
         if not programs or bad:
             self.client.close()
-            raise WandrosuError(f"the cluster {address} has no workers" if not programs else f"a worker can't run: {bad}")
+            raise WandrosuError(
+                f"the cluster {address} has no workers" if not programs else f"a worker can't run: {bad}"
+            )
         if len(set(programs.values())) > 1:
             self.client.close()
             raise WandrosuError(f"the workers of {address} have different programs: {programs}")
@@ -245,7 +250,11 @@ def map_documents(
         return [not_done[path] for path in files if path in not_done]
     engine: Any = Cluster(cluster) if cluster else Local(processes or os.cpu_count() or 1)
     progress = Progress(len(files), len(kept), out)
-    out.write(f"{command}: {len(open_ones)} documents" + (f", {len(kept)} answered before" if kept else "") + f"; {engine.where}\n")
+    out.write(
+        f"{command}: {len(open_ones)} documents"
+        + (f", {len(kept)} answered before" if kept else "")
+        + f"; {engine.where}\n"
+    )
     try:
         for answer in answers(engine, command, open_ones, workers):
             keep(answer, command)

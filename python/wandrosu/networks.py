@@ -70,7 +70,9 @@ class Network:
         """The open labels, -1 first."""
         return sorted((label for _, labels in self.tensors for label in labels if label < 0), reverse=True)
 
-    def contract(self, workers: Optional[int] = None, program: Optional[str] = None, timeout: Optional[float] = None) -> Tensor:
+    def contract(
+        self, workers: Optional[int] = None, program: Optional[str] = None, timeout: Optional[float] = None
+    ) -> Tensor:
         """What the network is worth: the tensor whose legs are the open ones, -1 first, exactly.
 
         `workers` (1 to 64) is the number of threads; it changes nothing in the result. Raises `Malformed` with the
@@ -80,7 +82,7 @@ class Network:
         return Tensor.from_document(json.loads(text))
 
     def plan(self, program: Optional[str] = None, timeout: Optional[float] = None) -> Plan:
-        """The steps and their costs; nothing is multiplied. Raises `Malformed`, among others for a step that is too wide."""
+        """The steps and their costs; nothing is multiplied. Raises `Malformed`, also where a step is too wide."""
         text = run("plan", self.document(), None, program, timeout)
         return Plan.from_document(json.loads(text), self)
 
@@ -133,7 +135,12 @@ class Network:
         """The same members with the same labels, order and twist."""
         if not isinstance(other, Network):
             return NotImplemented
-        mine, yours = (self.group, self.tensors, self.order, self.twist), (other.group, other.tensors, other.order, other.twist)
+        mine, yours = (self.group, self.tensors, self.order, self.twist), (
+            other.group,
+            other.tensors,
+            other.order,
+            other.twist,
+        )
         return mine == yours
 
     __hash__ = None  # type: ignore[assignment]

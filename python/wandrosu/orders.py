@@ -8,7 +8,7 @@ told by `Network.plan`, not by the search.
 
 from __future__ import annotations
 
-from typing import Any, Iterable, List, NamedTuple, Optional, Sequence, Set, Tuple, Union
+from typing import Any, Iterable, List, NamedTuple, Optional, Sequence, Set, Tuple
 
 import numpy as np
 
@@ -31,7 +31,13 @@ class Reordered(NamedTuple):
 
     def __str__(self) -> str:
         old, new = self.before.cost, self.after.cost
-        times = f", {old / new:.3g} times less" if new and new < old else f", {new / old:.3g} times more" if old and new > old else ""
+        times = (
+            f", {old / new:.3g} times less"
+            if new and new < old
+            else f", {new / old:.3g} times more"
+            if old and new > old
+            else ""
+        )
         return f"cost {old:,} before and {new:,} after{times}"
 
 
@@ -48,7 +54,11 @@ def as_labels(network: Network, order: Any) -> List[int]:
     """An order as a list of labels: given so, as the name of a search, or as a path of `numpy.einsum_path`."""
     if isinstance(order, str):
         return labels_of_path(network, find_path(network, order))
-    steps = list(order[0]) if isinstance(order, tuple) and order and isinstance(order[0], (list, tuple)) and _is_path(order[0]) else list(order)
+    steps = (
+        list(order[0])
+        if isinstance(order, tuple) and order and isinstance(order[0], (list, tuple)) and _is_path(order[0])
+        else list(order)
+    )
     if _is_path(steps):
         return labels_of_path(network, [tuple(step) for step in steps if not isinstance(step, str)])
     return [int(label) for label in steps]
@@ -71,7 +81,9 @@ def find_path(network: Network, by: str = "numpy", optimize: Any = "greedy") -> 
     open_ones = [number[label] for label in network.open_labels]
     if by == "numpy":
         if len(names) > LETTERS:
-            raise ValueError(f"numpy.einsum_path knows {LETTERS} labels and the network has {len(names)}; opt_einsum knows any number")
+            raise ValueError(
+                f"numpy.einsum_path knows {LETTERS} labels and the network has {len(names)}; opt_einsum knows more"
+            )
         operands: List[Any] = []
         for shape, labels in zip(shapes, subscripts):
             operands += [np.broadcast_to(np.zeros(()), shape), labels]

@@ -52,7 +52,10 @@ class Plan:
         widths = [max(len(row[column]) for row in rows) for column in range(5)]
         lines = []
         for row in rows:
-            cells = [text.rjust(w) if column in (0, 4) else text.ljust(w) for column, (text, w) in enumerate(zip(row, widths))]
+            cells = [
+                text.rjust(w) if column in (0, 4) else text.ljust(w)
+                for column, (text, w) in enumerate(zip(row, widths))
+            ]
             lines.append("  ".join(cells))
         return "\n".join(lines)
 

@@ -107,7 +107,12 @@ def _words(error: Any) -> str:
     elif error.validator == "enum":
         said = f"{_short(error.instance)} isn't one of {', '.join(map(repr, error.validator_value))}"
     elif error.validator in ("minimum", "maximum", "minItems", "maxItems"):
-        limit = {"minimum": "is below", "maximum": "is above", "minItems": "has fewer items than", "maxItems": "has more items than"}
+        limit = {
+            "minimum": "is below",
+            "maximum": "is above",
+            "minItems": "has fewer items than",
+            "maxItems": "has more items than",
+        }
         said = f"{_short(error.instance)} {limit[error.validator]} {error.validator_value}"
     else:
         said = f"{_short(error.instance)} isn't right ({error.validator}: {_short(error.validator_value)})"

@@ -64,8 +64,8 @@ class State:
         """The state of dense arrays A[left, site, right]; the first is A[site, right], the last A[left, site].
 
         `links` are the sectors of the n - 1 links, whose charge is that of all sites left of it. Without them they are
-        found from the entries; the values of each link are sorted by charge, and those that no entry on the left reaches
-        are left out, which changes no amplitude.
+        found from the entries; the values of each link are sorted by charge, and those that no entry on the left
+        reaches are left out, which changes no amplitude.
         `flux` is the charge of the state; without it that of the last array's entries. Entries are whole, as in
         `Tensor.from_array`. Raises `OffFlux` with the site where charges don't fit, and `WrongShape`.
         """
@@ -93,7 +93,9 @@ class State:
             try:
                 tensors.append(Tensor.from_array(array, legs[kept], total if last else None, group))
             except OffFlux as fault:
-                raise OffFlux(fault.value, fault.place, fault.tuple, fault.charge, fault.flux, f"site {j + 1}: ") from None
+                raise OffFlux(
+                    fault.value, fault.place, fault.tuple, fault.charge, fault.flux, f"site {j + 1}: "
+                ) from None
             except WrongShape as fault:
                 raise WrongShape(f"site {j + 1}: {str(fault).split(': ', 1)[1]}") from None
         return cls(sites, tensors)
@@ -235,7 +237,8 @@ def overlap_network(bra: State, ket: State) -> Network:
 
 def expectation_network(bra: State, operator: OperatorSum, ket: State, program: Optional[str] = None) -> Network:
     """The network that ``expect`` contracts: the bra's conjugates from the last site to the first, then the
-    operator's tensors and then the ket's, from the first site to the last. The operator's tensors come from the program."""
+    operator's tensors, which come from the program, and then the ket's, from the first site to the last.
+    """
     n = len(bra.sites)
     middle = operator.mpo(program)
     members: List[Tuple[Member, Sequence[int]]] = []
@@ -249,7 +252,9 @@ def expectation_network(bra: State, operator: OperatorSum, ket: State, program: 
         members.append((ket.tensors[j - 1], _ends(5 * j - 5, 5 * j - 3, 5 * j, j, n)))
     sites = range(1, n + 1)
     names = [f"bra {j}*" for j in reversed(sites)] + [f"W {j}" for j in sites] + [f"ket {j}" for j in sites]
-    places = [(float(j), 2.0) for j in reversed(sites)] + [(float(j), 1.0) for j in sites] + [(float(j), 0.0) for j in sites]
+    places = (
+        [(float(j), 2.0) for j in reversed(sites)] + [(float(j), 1.0) for j in sites] + [(float(j), 0.0) for j in sites]
+    )
     return Network(members, group=bra.group, names=names, positions=places)
 
 
@@ -289,11 +294,15 @@ def _sorted_links(arrays: List[NDArray[Any]], sites: Sequence[Site]) -> Tuple[Li
         array = arrays[j]
         if array.shape[:2] != (len(left), sites[j].leg.dim):
             raise WrongShape(
-                f"site {j + 1}: the array has the shape {array.shape}, and wants {len(left)} and {sites[j].leg.dim} at left and site"
+                f"site {j + 1}: the array has the shape {array.shape}, "
+                f"and wants {len(left)} and {sites[j].leg.dim} at left and site"
             )
         following = arrays[j + 1]
         if following.shape[0] != array.shape[2]:
-            raise WrongShape(f"site {j + 2}: the array has {following.shape[0]} values at left, and site {j + 1} has {array.shape[2]} at right")
+            raise WrongShape(
+                f"site {j + 2}: the array has {following.shape[0]} values at left, "
+                f"and site {j + 1} has {array.shape[2]} at right"
+            )
         right = _right_charges(array, left, sites[j], j)
         if not right:
             right, following = {0: group.zero}, np.zeros_like(following)
@@ -305,7 +314,7 @@ def _sorted_links(arrays: List[NDArray[Any]], sites: Sequence[Site]) -> Tuple[Li
 
 
 def _right_charges(array: NDArray[Any], left: Sequence[Charge], site: Site, j: int) -> Dict[int, Charge]:
-    """The charges of the values of the link right of a site, as the entries tell them; values without entries have none."""
+    """The charges of the values of the link right of a site, as entries tell them; a value without any has none."""
     group = site.group
     charges: Dict[int, Charge] = {}
     real, imaginary = parts_of(array)

@@ -57,7 +57,9 @@ class Site:
             self.leg, self.values, _ = KINDS[kind]
             return
         if leg is None or leg.group is None or leg.direction != "out":
-            raise ValueError("a site of one's own needs a leg 'out' with its group, as Leg('out', [(0, 1), (1, 1)], U1(fermion=True))")
+            raise ValueError(
+                "a site of one's own needs a leg 'out' with its group: Leg('out', [(0, 1), (1, 1)], U1(fermion=True))"
+            )
         self.leg, self.values = leg, tuple(values)
         for name, (charge, table) in sorted((operators or {}).items()):
             self.operators[name] = leg.group.charge(charge), np.asarray(table)
@@ -72,7 +74,9 @@ class Site:
         """A value of the site by its number from 0, or by its name (``"up"``, ``"full"``, ..)."""
         if isinstance(value, str):
             if value not in self.values:
-                raise ValueError(f"no value {value!r} at a site {self.kind}; there are {', '.join(self.values) or 'no names'}")
+                raise ValueError(
+                    f"no value {value!r} at a site {self.kind}; there are {', '.join(self.values) or 'no names'}"
+                )
             return self.values.index(value)
         if not 0 <= int(value) < self.leg.dim:
             raise ValueError(f"the value {value} isn't one of 0 to {self.leg.dim - 1}")
@@ -204,6 +208,10 @@ def _term(term: Sequence[Any]) -> Tuple[Gaussian, Tuple[Operator, ...]]:
     if words and not isinstance(words[0], str):
         coefficient = words.pop(0)
     names, sites = words[0::2], words[1::2]
-    if len(words) % 2 or not all(isinstance(name, str) for name in names) or any(isinstance(site, str) for site in sites):
+    if (
+        len(words) % 2
+        or not all(isinstance(name, str) for name in names)
+        or any(isinstance(site, str) for site in sites)
+    ):
         raise ValueError(f"a term is a coefficient, and then each operator's name and its site, not {term!r}")
     return gaussian(coefficient), tuple((name, int(site)) for name, site in zip(names, sites))

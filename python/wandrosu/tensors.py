@@ -54,7 +54,9 @@ class Tensor:
 
     def _set_block(self, sectors: Sector, data: NDArray[Any]) -> None:
         if len(sectors) != len(self.legs) or any(not 0 <= s < len(leg.sectors) for leg, s in zip(self.legs, sectors)):
-            raise WrongShape(f"the block {list(sectors)} doesn't name one sector for each of {len(self.legs)} legs", sectors)
+            raise WrongShape(
+                f"the block {list(sectors)} doesn't name one sector for each of {len(self.legs)} legs", sectors
+            )
         dims = tuple(leg.sectors[s][1] for leg, s in zip(self.legs, sectors))
         if data.shape != dims:
             raise WrongShape(f"the block {list(sectors)} has the shape {data.shape} and its sectors {dims}", sectors)
@@ -228,9 +230,7 @@ class Tensor:
         if (self.group, self.legs, self.flux) != (other.group, other.legs, other.flux):
             return False
         return self.blocks.keys() == other.blocks.keys() and all(
-            bool(np.all(mine == yours))
-            for s in self.blocks
-            for mine, yours in zip(self.blocks[s], other.blocks[s])
+            bool(np.all(mine == yours)) for s in self.blocks for mine, yours in zip(self.blocks[s], other.blocks[s])
         )
 
     __hash__ = None  # type: ignore[assignment]
