@@ -9,14 +9,14 @@ import pytest
 from hypothesis import given
 from random_tensors import F, filled_tensor, random_network, seeds
 
-from wandrosu import Combiner, Leg, Network
+from wandrosu import Combiner, Leg, Malformed, Network
 from wandrosu.orders import find_path, labels_of_path
 
 
-def ladder(n):
+def ladder(n, sectors=((0, 2), (1, 2))):
     """A closed ladder of 2 n tensors, whose ascending labels go along one rail first."""
     rnd = random.Random(2)
-    leg = Leg("out", [(0, 2), (1, 2)], F)
+    leg = Leg("out", sectors, F)
     rails = {(side, j): side * (n - 1) + j for side in (0, 1) for j in range(1, n)}
     rungs = {j: 2 * (n - 1) + j for j in range(1, n + 1)}
     members = []
@@ -46,6 +46,16 @@ def test_costs_before_and_after():
     assert (
         str(network.reordered(network.labels)) == f"cost {found.before.cost:,} before and {found.before.cost:,} after"
     )
+
+
+def test_an_order_that_is_too_wide_is_mended():
+    network = ladder(13, [(0, 1), (1, 1), (2, 1)])
+    with pytest.raises(Malformed, match="F27 too wide: step"):
+        network.plan()
+    found = network.reordered()
+    assert found.before is None and str(found) == f"too wide before and cost {found.after.cost:,} after"
+    with pytest.raises(Malformed, match="F22"):
+        Network(network.tensors[:3]).reordered()
 
 
 def test_paths_as_numpy_gives_them():

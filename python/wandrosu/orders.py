@@ -8,10 +8,11 @@ told by `Network.plan`, not by the search.
 
 from __future__ import annotations
 
-from typing import Any, Iterable, List, NamedTuple, Optional, Sequence, Set, Tuple
+from typing import Any, List, NamedTuple, Optional, Sequence, Set, Tuple
 
 import numpy as np
 
+from .errors import Malformed
 from .networks import Network
 from .plans import Plan
 
@@ -20,53 +21,59 @@ Path = Sequence[Tuple[int, ...]]
 
 LETTERS = 52
 """NumPy's einsum knows this many labels."""
+TOO_WIDE = 27
+"""The fault of a step whose result is past a limit."""
 
 
 class Reordered(NamedTuple):
     """A network with another order, and its plans before and after. It prints the two costs."""
 
     network: Network
-    before: Plan
+    before: Optional[Plan]
+    """None where a step of the old order is too wide (F27)"""
     after: Plan
 
     def __str__(self) -> str:
+        if self.before is None:
+            return f"too wide before and cost {self.after.cost:,} after"
         old, new = self.before.cost, self.after.cost
-        times = (
-            f", {old / new:.3g} times less"
-            if new and new < old
-            else f", {new / old:.3g} times more"
-            if old and new > old
-            else ""
-        )
+        times = ""
+        if 0 < new < old:
+            times = f", {old / new:.3g} times less"
+        elif 0 < old < new:
+            times = f", {new / old:.3g} times more"
         return f"cost {old:,} before and {new:,} after{times}"
 
 
 def reordered(network: Network, by: Any = "numpy", program: Optional[str] = None) -> Reordered:
     """The network with an order found by `by` (``"numpy"``, ``"opt_einsum"``, or a path or labels), and both plans.
 
-    Raises `Malformed` where one of the two orders is too wide (F27).
+    Raises `Malformed` where the network has a fault, and where the new order too is too wide (F27).
     """
     other = network.with_order(by)
-    return Reordered(other, network.plan(program), other.plan(program))
+    before: Optional[Plan] = None
+    try:
+        before = network.plan(program)
+    except Malformed as fault:
+        if fault.code != TOO_WIDE:
+            raise
+    return Reordered(other, before, other.plan(program))
 
 
 def as_labels(network: Network, order: Any) -> List[int]:
     """An order as a list of labels: given so, as the name of a search, or as a path of `numpy.einsum_path`."""
     if isinstance(order, str):
         return labels_of_path(network, find_path(network, order))
-    steps = (
-        list(order[0])
-        if isinstance(order, tuple) and order and isinstance(order[0], (list, tuple)) and _is_path(order[0])
-        else list(order)
-    )
-    if _is_path(steps):
-        return labels_of_path(network, [tuple(step) for step in steps if not isinstance(step, str)])
-    return [int(label) for label in steps]
+    if isinstance(order, tuple) and order and _is_path(order[0]):
+        order = order[0]
+    if _is_path(order):
+        return labels_of_path(network, [tuple(step) for step in order if not isinstance(step, str)])
+    return [int(label) for label in order]
 
 
-def _is_path(steps: Iterable[Any]) -> bool:
-    steps = list(steps)
-    return bool(steps) and all(isinstance(step, (tuple, list)) or step == "einsum_path" for step in steps)
+def _is_path(steps: Any) -> bool:
+    """Whether this is a list of steps, each a tuple of places; NumPy's has a word before them."""
+    return isinstance(steps, (list, tuple)) and bool(steps) and all(isinstance(s, (tuple, list, str)) for s in steps)
 
 
 def find_path(network: Network, by: str = "numpy", optimize: Any = "greedy") -> List[Tuple[int, ...]]:
