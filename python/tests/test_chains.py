@@ -211,6 +211,10 @@ def test_states_with_given_links():
     ):
         with pytest.raises(WrongShape):
             State.from_arrays(wrong, ["fermion"] * 2)
+    with pytest.raises(WrongShape, match="2 links between 2 sites"):
+        State.from_arrays(arrays, ["fermion"] * 2, links=[[(0, 1), (1, 1)]] * 2)
+    with pytest.raises(WrongShape, match="0 arrays for 0 sites"):
+        State.from_arrays([], [])
     single = State.from_arrays([np.array([0, 3])], ["fermion"])
     assert overlap(single, single) == 9
 

@@ -71,34 +71,27 @@ class State:
         """
         sites = sites_of(sites)
         arrays = [np.asarray(a) for a in arrays]
-        if len(arrays) != len(sites):
+        if len(arrays) != len(sites) or not sites:
             raise WrongShape(f"{len(arrays)} arrays for {len(sites)} sites")
+        if links is not None and len(links) != len(sites) - 1:
+            raise WrongShape(f"{len(links)} links between {len(sites)} sites")
         whole = [_with_links(array, j, len(sites)) for j, array in enumerate(arrays)]
         group = sites[0].group
         if links is None:
             whole, found = _sorted_links(whole, sites)
         else:
             found = [Leg("out", sectors, group) for sectors in links]
-        start = Leg("out", [(group.zero, 1)], group)
-        total = _total(whole[-1], ([start] + found)[-1], sites[-1]) if flux is None else group.charge(flux)
-        found = [start, *found, Leg("out", [(group.zero, 1)], group)]
-        tensors = []
-        for j, (array, site) in enumerate(zip(whole, sites)):
-            legs = [found[j], site.leg, found[j + 1].turned()]
-            last = j == len(sites) - 1
-            first = 1 if j == 0 else 0
-            kept = slice(first, 2 if last else 3)
-            array = array[0] if j == 0 else array
-            array = array[..., 0] if last else array
-            try:
-                tensors.append(Tensor.from_array(array, legs[kept], total if last else None, group))
-            except OffFlux as fault:
-                raise OffFlux(
-                    fault.value, fault.place, fault.tuple, fault.charge, fault.flux, f"site {j + 1}: "
-                ) from None
-            except WrongShape as fault:
-                raise WrongShape(f"site {j + 1}: {str(fault).split(': ', 1)[1]}") from None
-        return cls(sites, tensors)
+        end = Leg("out", [(group.zero, 1)], group)
+        total = _total(whole[-1], ([end] + found)[-1], sites[-1]) if flux is None else group.charge(flux)
+        fluxes = [group.zero] * (len(sites) - 1) + [total]
+        chain = [end, *found, end]
+        return cls(
+            sites,
+            [
+                _site_tensor(j, array, [chain[j], site.leg, chain[j + 1].turned()], fluxes)
+                for j, (array, site) in enumerate(zip(whole, sites))
+            ],
+        )
 
     @classmethod
     def from_vector(cls, sites: Iterable[SiteLike], amplitudes: Any) -> "State":
@@ -281,6 +274,19 @@ def _with_links(array: NDArray[Any], j: int, n: int) -> NDArray[Any]:
     if j == 0:
         array = array[np.newaxis]
     return array[..., np.newaxis] if j == n - 1 else array
+
+
+def _site_tensor(j: int, array: NDArray[Any], legs: Sequence[Leg], fluxes: Sequence[Charge]) -> Tensor:
+    """The tensor of site j (from 0), of the array with both links; the ends lose theirs. Faults name the site."""
+    first, last = (1 if j == 0 else 0), (2 if j == len(fluxes) - 1 else 3)
+    array = array.reshape(array.shape[first:last])
+    try:
+        return Tensor.from_array(array, legs[first:last], fluxes[j])
+    except OffFlux as fault:
+        site = f"site {j + 1}: "
+        raise OffFlux(fault.value, fault.place, fault.tuple, fault.charge, fault.flux, site) from None
+    except WrongShape as fault:
+        raise WrongShape(f"site {j + 1}: {str(fault).split(': ', 1)[1]}") from None
 
 
 def _sorted_links(arrays: List[NDArray[Any]], sites: Sequence[Site]) -> Tuple[List[NDArray[Any]], List[Leg]]:
