@@ -1,10 +1,11 @@
 -- What a status says of the bytes that came, of the source and of the sink.
-use Rattle.std.specs.Prelude.{◌≡◌, ◌⊎◌, ℕ, ◌+◌, ◌≤◌, ◌<◌, List, [], ◌∷◌, length, take, Bool, true, Option, None}
+use Rattle.std.specs.Prelude.{◌≡◌, ◌⊎◌, ℕ, ◌+◌, ◌≤◌, ◌<◌, List, [], ◌∷◌, length, take, Bool, true, Option, None, Ok, Err}
 use Rattle.std.specs.Io.KnownBytes.{Keeps, Consumes, Appends, IsAtEnd}
 use Rattle.qn_net.specs.NetworkValues.{NetworkValue}
 use Rattle.qn_parts.specs.declared.fault.Fault.{Fault}
 use Rattle.qn_words.specs.declared.words.Job.{Job}
 use Rattle.qn_words.specs.declared.words.Job.TheVariants.{Mpo}
+use Rattle.qn_words.specs.Words.{job_of}
 use Rattle.qn_cli.specs.declared.status.Status.{Status}
 use Rattle.qn_cli.specs.declared.status.Status.TheVariants.{Done, Usage, Malformed, Passed, ReadFault, WriteFault, Memory}
 use Rattle.qn_charge.specs.Firsts.{HasNone}
@@ -136,3 +137,8 @@ pub record EndsOn (job : Job) (left_old left_new held_old held_new : Option (Lis
   pub cost : Multiplies job bytes steps_old steps_new
   -- the network that is written has the matrix elements of the operator sum
   pub elements : result ≡ Done → job ≡ Mpo → HasElementsIn bytes
+
+-- how a call ends on these words: with the first that doesn't fit, or as their job and the bytes that came ask
+pub record Ends (words : List (List ℕ)) (left_old left_new held_old held_new : Option (List ℕ)) (steps_old steps_new : ℕ) (result : Status) : Type 0 where
+  pub usage : (place : ℕ) → job_of words ≡ Err place → result ≡ Usage place
+  pub bytes : (job : Job) → job_of words ≡ Ok job → (bytes : List ℕ) × EndsOn job left_old left_new held_old held_new steps_old steps_new result bytes
