@@ -1,6 +1,7 @@
 """The schemas against the program: what it accepts they accept, and what has F3 they refuse."""
 
 import json
+import multiprocessing
 import os
 import random
 import subprocess
@@ -36,11 +37,17 @@ def judged(job):
     return (0 if said.returncode == 4 else int(said.stderr.split()[2][1:])), found, []
 
 
-def agree(jobs):
+@pytest.fixture(scope="module")
+def pool():
+    """Four processes; they begin anew, since other tests have left threads in this one."""
+    with ProcessPoolExecutor(4, multiprocessing.get_context("spawn")) as processes:
+        yield processes
+
+
+def agree(pool, jobs):
     """Each document that the program accepts is accepted by the schema, each with F3 is refused; texts have their form.
     Returns the answers."""
-    with ProcessPoolExecutor(4) as pool:
-        rows = list(pool.map(judged, jobs, chunksize=20))
+    rows = list(pool.map(judged, jobs, chunksize=20))
     for (command, document), (said, found, text_problems) in zip(jobs, rows):
         if said == 3:
             assert found, f"{command}: the schema accepts what has F3: {document!r}"
@@ -63,20 +70,20 @@ def suite_jobs(count):
             yield ["mpo", "overlap", "expect"][seed // 2 % 3], draw.states()
 
 
-def test_two_thousand_random_documents():
+def test_two_thousand_random_documents(pool):
     """Those of the suite's generator where the suite is there, and of the one of these tests."""
     jobs = list(suite_jobs(2000)) if (SUITE / "randoms.py").exists() else []
     rnd = random.Random(20)
     jobs += [random_document(rnd) for _ in range(500 if jobs else 2000)]
-    got = agree(jobs)
+    got = agree(pool, jobs)
     assert sum(isinstance(said, str) for said in got) > 1600
 
 
-def test_documents_that_were_changed():
+def test_documents_that_were_changed(pool):
     rnd = random.Random(21)
     jobs = [random_document(rnd) for _ in range(600)]
     jobs = [(command, changed_at_random(rnd, document)) for command, document in jobs]
-    got = agree(jobs)
+    got = agree(pool, jobs)
     assert got.count(3) > 200 and sum(isinstance(said, str) for said in got) > 20
 
 
@@ -103,13 +110,13 @@ BASES = [
 ]
 
 
-def test_every_place_with_every_wrong_value():
+def test_every_place_with_every_wrong_value(pool):
     """The table of wrong forms: each value of these documents exchanged for each of the wrong values, or left out."""
     jobs = []
     for command, base in BASES:
         for path in places(base):
             jobs += [(command, with_value(base, path, value)) for value in WRONG] + [(command, without(base, path))]
-    got = agree(jobs)
+    got = agree(pool, jobs)
     assert got.count(3) > 1000
 
 
