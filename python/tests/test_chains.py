@@ -191,6 +191,9 @@ def test_states_from_arrays(seed):
     arrays, _ = random_arrays(rnd, n, rnd.randint(0, n), rnd.randint(1, 4))
     state = State.from_arrays(arrays, ["fermion"] * n)
     assert np.array_equal(state.amplitudes().to_array(object), product_of(arrays).astype(object))
+    for tensor in state.tensors[:-1]:
+        charges = [charge for charge, _ in tensor.legs[-1].sectors]
+        assert charges == sorted(set(charges))
 
 
 def test_states_with_given_links():

@@ -1,5 +1,6 @@
 """Many documents: on this machine, broken off and gone on with, and on a cluster."""
 
+import io
 import os
 import shutil
 import signal
@@ -75,6 +76,22 @@ def test_answered_documents_are_passed_over(tmp_path, capsys):
     paths[4].unlink()
     assert main(["map", "contract", *map(str, paths)]) == 1
     assert "4 done, 0 refused, 1 failed" in capsys.readouterr().out
+
+
+class Terminal(io.StringIO):
+    """A text that says it is a terminal."""
+
+    def isatty(self):
+        return True
+
+
+def test_a_terminal_shows_a_bar(tmp_path):
+    paths = documents(tmp_path, 10)
+    screen = Terminal()
+    many.map_documents("contract", paths, out=screen)
+    last = screen.getvalue().rstrip("\n").split("\r")[-1]
+    assert last.startswith("[########################] 10/10, 4 refused, 0:0") and " left" in last
+    assert many._clock(59.6) == "1:00" and many._clock(3661) == "1:01:01"
 
 
 def test_failures_are_tried_again(tmp_path, monkeypatch, capsys, program):

