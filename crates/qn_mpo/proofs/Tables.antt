@@ -8,6 +8,8 @@ use Rattle.std.proofs.Math.Nat.{div-lt_iff_lt-mul, mod-lt, mul-le-mul_right}
 use Rattle.std.proofs.lemmas.List.{length-append}
 use Rattle.std.proofs.lemmas.Nat.{div-mul-add, mod-mul-add}
 use Rattle.qn_gauss.specs.Gaussian.{Gaussian, add_g, limit, mag, mul_g, one_g, zero_g}
+use Rattle.qn_gauss.proofs.Ring.{add_zero, zero_mul}
+use Rattle.qn_gauss.proofs.Size.{mag_zero}
 use Rattle.qn_value.specs.Networks.{sum_below}
 use Rattle.qn_value.specs.Magnitudes.{total_below}
 use Rattle.qn_mpo.specs.Sizes.{SumValue, size_with, with_product}
@@ -62,6 +64,15 @@ next : (n : ℕ) → suc n ≡ n + 1
 next n = omega arith
 
 -- one summand more
+-- a product with 0 adds nothing
+pub nothing_more : (s : SumValue) (a b : Gaussian) → a ≡ zero_g → s ≡ with_product s a b
+nothing_more s a b e =
+    let value : add_g s.value (mul_g a b) ≡ s.value = ap (λ z. add_g s.value (mul_g z b)) e ∙ (ap (add_g s.value) (zero_mul b) ∙ add_zero s.value) in
+    let none : mag a ≡ 0 = ap mag e ∙ mag_zero in
+    let nothing : mag a * mag b ≡ 0 = let z : 0 * mag b ≡ 0 = omega arith in ap (λ n. n * mag b) none ∙ z in
+    let size : s.size + mag a * mag b ≡ s.size = omega (arith, nothing) in
+    λ i. record { value = sym value i; size = sym size i }
+
 pub value_more : (dim : ℕ) (p q : List Gaussian) (x y v : ℕ) (s m : SumValue) (a b : Gaussian) → s.value ≡ sum_below v (λ u. mul_g (cell dim p x u) (cell dim q u y)) →
     a ≡ cell dim p x v → b ≡ cell dim q v y → m ≡ with_product s a b → m.value ≡ sum_below (v + 1) (λ u. mul_g (cell dim p x u) (cell dim q u y))
 value_more dim p q x y v s m a b h ea eb em =

@@ -46,6 +46,9 @@ fn product_entry<L: Ledger>(
     let mut sum = Sum::ZERO;
     for v in 0..dim {
         let first = cell(dim, left, row, v);
+        if first.is_zero() {
+            continue;
+        }
         let second = cell(dim, right, v, column);
         match sum.plus(first, second, steps) {
             Some(more) => sum = more,
