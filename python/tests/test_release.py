@@ -66,7 +66,7 @@ def test_what_both_tell(release):
             "bin/qntn",
             "share/doc/wandrosu/docs/FORMAT.md",
             "share/doc/wandrosu/docs/schema/sum.json",
-            "share/doc/wandrosu/examples/trace.json",
+            "share/doc/wandrosu/examples/networks/trace.json",
         }
         | share
     )
