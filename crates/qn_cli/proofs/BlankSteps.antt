@@ -1,5 +1,5 @@
--- Which step is too wide does not depend on the entries of the tensors: a plan goes by their legs, their fluxes and their roles.
-use Rattle.std.proofs.Common.{◌≡◌, ℕ, suc, ℤ, List, [], ◌∷◌, ◌++◌, map, Bool, true, false, Option, Some, None, if◌then◌else◌, nat_lt, refl, sym, ap, ap₂, ◌∙◌}
+-- A plan does not depend on the entries of the tensors, nor does the step that is too wide: both go by their legs, their fluxes and their roles.
+use Rattle.std.proofs.Common.{◌≡◌, ℕ, suc, ◌||◌, ℤ, List, [], ◌∷◌, ◌++◌, map, Bool, true, false, Option, Some, None, if◌then◌else◌, nat_lt, refl, sym, ap, ap₂, ◌∙◌}
 use Rattle.std.proofs.lemmas.List.{map-append}
 use Rattle.std.specs.Ordering.{int_eq}
 use Rattle.qn_sign.specs.Sign.{is_in, xor}
@@ -9,14 +9,17 @@ use Rattle.qn_index.specs.Legs.{SectorValue}
 use Rattle.qn_value.specs.Networks.{Node, Bond, Parities, labels, odd_flux}
 use Rattle.qn_value.specs.Fluxes.{sum_flux}
 use Rattle.qn_value.specs.Blocks.{legs_on}
-use Rattle.qn_value.specs.Labels.{sectors_on, parity_of, bonds_of}
+use Rattle.qn_value.specs.Labels.{Slot, sectors_on, parity_of, bonds_of}
+use Rattle.qn_match.specs.Cost.{cost_of}
 use Rattle.qn_net.specs.Groups.{Member, Listed, TensorGroup, nodes, flux_of, place_member, merged, joined, closed}
-use Rattle.qn_net.specs.Steps.{Step, State, result, after, carry}
+use Rattle.qn_net.specs.Steps.{Step, State, result, after, carry, fuses, written}
 use Rattle.qn_net.specs.Steps.Step.{pair, trace}
 use Rattle.qn_net.specs.Plans.{Found, has_label, past, find, meet_second, meet_first, taken, products, all_products, plan, start, first_state}
 use Rattle.qn_net.specs.Plans.Found.{nowhere, found}
 use Rattle.qn_net.specs.NetworkValues.{NetworkValue, legs_of, member_of, begin, bonds, parities, sectors, steps}
-use Rattle.qn_plan.specs.Planned.{is_too_wide, first_wide_from, first_wide}
+use Rattle.qn_plan.specs.Planned.{StepValue, is_too_wide, first_wide_from, first_wide, planned}
+use Rattle.qn_plan.specs.Shapes.{shared_places}
+use Rattle.qn_cli.proofs.SameSteps.{planned_by, plan_is}
 
 -- ---- without entries
 
@@ -179,29 +182,29 @@ carry_same par (t ∷ ts) (u ∷ us) s z e h =
     carry_same par ts us (after par t) (after par u) (ap tail_of e) (after_same par t u (ap (head_or (blank_step t)) e))
 
 products_same : (par : Parities) (left : List Bond) (g k : TensorGroup) (hs ls : List TensorGroup) → blank_group g ≡ blank_group k → map blank_group hs ≡ map blank_group ls
-    → results par (products par left g hs) ≡ results par (products par left k ls)
+    → map blank_step (products par left g hs) ≡ map blank_step (products par left k ls)
 products_same par left g k [] [] e f = refl
 products_same par left g k [] (l ∷ ls) e f = absurd (cc f)
 products_same par left g k (h ∷ hs) [] e f = absurd (cc f)
 products_same par left g k (h ∷ hs) (l ∷ ls) e f =
     let made = joined_same par false g k h l [] e (ap (head_or (blank_group h)) f) in
-    ap₂ (λ (x : TensorGroup) (xs : List TensorGroup). x ∷ xs) made (products_same par left (joined par false g h []) (joined par false k l []) hs ls made (ap tail_of f))
+    ap₂ (λ (t : Step) (ts : List Step). t ∷ ts) (λ i. pair [] (e i) [] (head_or (blank_group h) (f i)) (tail_of (f i)) [] left)
+    (products_same par left (joined par false g h []) (joined par false k l []) hs ls made (ap tail_of f))
 
-all_same : (par : Parities) (left : List Bond) (gs hs : List TensorGroup) → map blank_group gs ≡ map blank_group hs → results par (all_products par left gs) ≡ results par (all_products par left hs)
+all_same : (par : Parities) (left : List Bond) (gs hs : List TensorGroup) → map blank_group gs ≡ map blank_group hs → map blank_step (all_products par left gs) ≡ map blank_step (all_products par left hs)
 all_same par left [] [] e = refl
 all_same par left [] (h ∷ hs) e = absurd (cc e)
 all_same par left (g ∷ gs) [] e = absurd (cc e)
 all_same par left (g ∷ gs) (h ∷ hs) e = products_same par left g h gs hs (ap (head_or (blank_group g)) e) (ap tail_of e)
 
-plan_same : (par : Parities) (order : List ℤ) (s z : State) → blank_state s ≡ blank_state z → results par (plan par order s) ≡ results par (plan par order z)
+plan_same : (par : Parities) (order : List ℤ) (s z : State) → blank_state s ≡ blank_state z → map blank_step (plan par order s) ≡ map blank_step (plan par order z)
 plan_same par [] s z e =
-    all_same par s.left s.groups z.groups (ap (λ (k : State). k.groups) e) ∙ ap (λ (bs : List Bond). results par (all_products par bs z.groups)) (ap (λ (k : State). k.left) e)
+    all_same par s.left s.groups z.groups (ap (λ (k : State). k.groups) e) ∙ ap (λ (bs : List Bond). map blank_step (all_products par bs z.groups)) (ap (λ (k : State). k.left) e)
 plan_same par (l ∷ ls) s z e =
     let steps_are = taken_same l s z e in
-    map-append (λ (t : Step). blank_group (result par t)) (taken l s) (plan par ls (carry par (taken l s) s))
-    ∙ (ap₂ (λ (xs ys : List TensorGroup). xs ++ ys) (results_same par (taken l s) (taken l z) steps_are)
-    (plan_same par ls (carry par (taken l s) s) (carry par (taken l z) z) (carry_same par (taken l s) (taken l z) s z steps_are e))
-    ∙ sym (map-append (λ (t : Step). blank_group (result par t)) (taken l z) (plan par ls (carry par (taken l z) z))))
+    map-append blank_step (taken l s) (plan par ls (carry par (taken l s) s))
+    ∙ (ap₂ (λ (xs ys : List Step). xs ++ ys) steps_are (plan_same par ls (carry par (taken l s) s) (carry par (taken l z) z) (carry_same par (taken l s) (taken l z) s z steps_are e))
+    ∙ sym (map-append blank_step (taken l z) (plan par ls (carry par (taken l z) z))))
 
 -- ---- the first wide step
 
@@ -235,12 +238,44 @@ start_same : (bs : List Bond) (ms ns : List Member) → map blank_member ms ≡ 
 start_same bs ms ns e = ap (state_with bs) (start_blank 1 ms ∙ (ap (start 1) e ∙ sym (start_blank 1 ns)))
 
 -- networks with the same group, order, twisted labels and legs, whose members differ at most in their entries
-pub same_width_without_entries : (m n : NetworkValue) → m.group ≡ n.group → m.order ≡ n.order → m.twists ≡ n.twists → legs_of m ≡ legs_of n
-    → map blank_member (map member_of m.members) ≡ map blank_member (map member_of n.members) → first_wide m ≡ first_wide n
-same_width_without_entries m n group order twists legs members =
+pub record AreSameButEntries (m n : NetworkValue) : Type 0 where
+  pub group : m.group ≡ n.group
+  pub order : m.order ≡ n.order
+  pub twists : m.twists ≡ n.twists
+  pub legs : legs_of m ≡ legs_of n
+  pub members : map blank_member (map member_of m.members) ≡ map blank_member (map member_of n.members)
+
+steps_same : (m n : NetworkValue) → AreSameButEntries m n → map blank_step (steps m) ≡ map blank_step (steps n)
+steps_same m n s =
+    plan_same (parities m) m.order (begin m) (first_state (map member_of n.members) (bonds m)) (start_same (bonds m) (map member_of m.members) (map member_of n.members) s.members)
+    ∙ (λ i. map blank_step (plan (parity_of (s.group i) (s.legs i)) (s.order i) (first_state (map member_of n.members) (bonds_of (s.twists i) (s.legs i)))))
+
+pub same_width_without_entries : (m n : NetworkValue) → AreSameButEntries m n → first_wide m ≡ first_wide n
+same_width_without_entries m n s =
     wide_is m 1 (steps m)
-    ∙ (ap (wide_in m.group (sectors m) 1)
-    (plan_same (parities m) m.order (begin m) (first_state (map member_of n.members) (bonds m)) (start_same (bonds m) (map member_of m.members) (map member_of n.members) members))
-    ∙ ((λ i. wide_in (group i) (sectors_on (legs i)) 1
-    (results (parity_of (group i) (legs i)) (plan (parity_of (group i) (legs i)) (order i) (first_state (map member_of n.members) (bonds_of (twists i) (legs i))))))
-    ∙ sym (wide_is n 1 (steps n))))
+    ∙ (ap (wide_in m.group (sectors m) 1) (results_same (parities m) (steps m) (steps n) (steps_same m n s))
+    ∙ ((λ i. wide_in (s.group i) (sectors_on (s.legs i)) 1 (results (parity_of (s.group i) (s.legs i)) (steps n))) ∙ sym (wide_is n 1 (steps n))))
+
+-- ---- the plan
+
+flux_blank : (fs : List Factor) (g : TensorGroup) → flux_of fs (blank_group g) ≡ flux_of fs g
+flux_blank fs g = ap (λ (qs : List (List ℤ)). sum_flux fs qs) (fluxes_blank g.members)
+
+planned_blank : (fs : List Factor) (ss : List Slot) (t : Step) → planned_by fs ss (blank_step t) ≡ planned_by fs ss t
+planned_blank fs ss (pair before g between h behind bonds left) =
+    let cost : ℕ → StepValue = λ n. record { kind = (written (pair before g between h behind bonds left)).kind; first = g.number; second = h.number; labels = labels bonds; cost = n } in
+    ap₂ (λ (p q : List ℤ). cost (if fuses g bonds || fuses h bonds then 0 else
+    cost_of fs (legs_on (sectors_on ss) g.node.ends) p (legs_on (sectors_on ss) h.node.ends) q (shared_places g.node.ends h.node.ends (labels bonds)))) (flux_blank fs g) (flux_blank fs h)
+planned_blank fs ss (trace before g behind bonds left) = refl
+
+all_blank : (fs : List Factor) (ss : List Slot) (ts : List Step) → map (planned_by fs ss) (map blank_step ts) ≡ map (planned_by fs ss) ts
+all_blank fs ss [] = refl
+all_blank fs ss (t ∷ ts) = ap₂ (λ (k : StepValue) (ks : List StepValue). k ∷ ks) (planned_blank fs ss t) (all_blank fs ss ts)
+
+pub same_plan_without_entries : (m n : NetworkValue) → AreSameButEntries m n → planned m ≡ planned n
+same_plan_without_entries m n s =
+    let fs = m.group in
+    let ss = legs_of m in
+    plan_is m (steps m)
+    ∙ (sym (all_blank fs ss (steps m))
+    ∙ (ap (map (planned_by fs ss)) (steps_same m n s) ∙ (all_blank fs ss (steps n) ∙ ((λ i. map (planned_by (s.group i) (s.legs i)) (steps n)) ∙ sym (plan_is n (steps n))))))

@@ -12,13 +12,9 @@ use Rattle.qn_cli.specs.Operators.{IsSumIn}
 use Rattle.qn_cli.specs.Jobs.{Multiplies}
 use Rattle.qn_cli.specs.Answers.{IsWithinPlan, IsWithinBuild}
 
-pub within_plan : (net : NetworkValue) (before now : ℕ) → now ≤ before + cost_of_plan net → ((step : ℕ) → first_wide net ≡ Some step → now ≡ before) → IsWithinPlan net before now
+pub within_narrow : (net : NetworkValue) (before now : ℕ) → first_wide net ≡ None → now ≤ before + cost_of_plan net → IsWithinPlan net before now
 unfolding IsWithinPlan
-within_plan net before now few still = by (first_wide net) refl
-  where
-    by : (o : Option ℕ) → first_wide net ≡ o → IsWithinPlan net before now
-    by None e = inr (e, few)
-    by (Some step) e = inl (still step e)
+within_narrow net before now narrow few = inr (narrow, few)
 
 pub no_value_yet : (net : NetworkValue) (before : ℕ) → IsWithinPlan net before before
 unfolding IsWithinPlan

@@ -1,5 +1,6 @@
 -- What the network of two states with the automaton between them gives, as the outcome of their expectation.
-use Rattle.std.proofs.Common.{◌≡◌, inl, inr, ◌+◌, ℕ, zero, suc, List, [], None, refl, sym, ◌∙◌, ap, subst, arith}
+use Rattle.std.proofs.Common.{◌≡◌, inl, inr, ◌+◌, ℕ, zero, suc, ◌≤◌, ◌<◌, ◌^◌, List, [], length, None, refl, sym, ◌∙◌, ap, subst, arith}
+use Rattle.std.specs.List.{sum_by}
 use Rattle.qn_charge.specs.Charges.{sum_charge, neg_charge}
 use Rattle.qn_charge.specs.Firsts.{HasNone}
 use Rattle.qn_index.specs.Legs.{LegValue}
@@ -9,9 +10,10 @@ use Rattle.qn_opsum.specs.Sums.{SumValue}
 use Rattle.qn_auto.specs.SumAutomaton.{IsWideAt, made_of}
 use Rattle.qn_paths.specs.Sums.{SumExpectationLaw, site_legs as legs_of_sites, sum_element}
 use Rattle.qn_opsum.specs.Refusals.{IsSum}
-use Rattle.qn_plan.specs.Planned.{first_wide, cost_of_plan}
+use Rattle.qn_plan.specs.Planned.{StepValue, first_wide, cost_of_plan, planned}
 use Rattle.qn_braket.specs.Chains.{IsChain, IsOperatorChain, IsExpectNetwork, chain_flux, element, expectation, expect_network}
 use Rattle.qn_braket.specs.ChainLaws.{network_flux}
+use Rattle.qn_mps.specs.SameNetworks.{SameExpectLaw}
 use Rattle.qn_mps.specs.Chains.{ChainValue, IsHeld, legs_of}
 use Rattle.qn_mps.specs.declared.chain.ChainKind.{ChainKind}
 use Rattle.qn_mps.specs.declared.chain.ChainKind.TheVariants.{Operator}
@@ -24,13 +26,15 @@ use Rattle.qn_cli.specs.declared.status.Status.{Status}
 use Rattle.qn_cli.specs.declared.status.Status.TheVariants.{Done, Usage, Malformed, Passed, ReadFault, WriteFault, Memory}
 use Rattle.qn_cli.specs.Networks.{value_tensor, IsWideStep}
 use Rattle.qn_cli.specs.Operators.{automaton, IsBuildable}
-use Rattle.qn_cli.specs.Brakets.{BraketValue, pair_of, IsExpectOf, IsNarrowExpect, IsWideExpect, IsExpectText, scalar_tensor, expect_flux, expect_text, expectation_of}
+use Rattle.qn_cli.specs.Brakets.{BraketValue, pair_of, IsExpectOf, IsExpectPlan, IsNarrowExpect, IsWideExpect, IsExpectText, scalar_tensor, expect_flux, expect_text, expectation_of}
 use Rattle.qn_cli.specs.States.{ArePair, IsOnStates}
 use Rattle.qn_cli.specs.Answers.{HasNarrow, IsWidthRefusal, IsExpectRefusal, IsPlanRefusal, IsValueRefusal, IsBuildRefusal, IsWithinBuild, IsWithinPlan, IsWithinExpect}
 use Rattle.qn_cli.proofs.Automata.{tensors_are}
 use Rattle.qn_cli.proofs.AutomatonFlux.{automaton_flux}
 use Rattle.qn_cli.proofs.Scalars.{scalar_is, expect_closed, expect_group}
-use Rattle.qn_cli.proofs.Skeletons.{same_expect_width, skeleton_shape}
+use Rattle.qn_cli.proofs.Skeletons.{same_expect, skeleton_shape}
+use Rattle.qn_cli.proofs.BlankSteps.{same_width_without_entries, same_plan_without_entries}
+use Rattle.qn_cli.proofs.SameSteps.{same_width, same_plan}
 
 -- the network with the skeleton stands for that with the automaton
 
@@ -39,7 +43,27 @@ with_automaton b v ts net p = expect_network b.group p.0 (automaton v) b.ket
 
 width_is : (b : BraketValue) (v : SumValue) (c : ChainValue) (net : NetworkValue) (p : IsExpectNetwork b.group b.bra c.tensors b.ket net) → IsFrame v c
     → first_wide net ≡ first_wide (with_automaton b v c.tensors net p)
-width_is b v c net p h = ap first_wide p.2 ∙ same_expect_width b.group p.0 c.tensors (automaton v) b.ket (skeleton_shape v c.tensors h.tensors)
+width_is b v c net p h =
+    ap first_wide p.2
+    ∙ same_width_without_entries (expect_network b.group p.0 c.tensors b.ket) (with_automaton b v c.tensors net p) (same_expect b.group p.0 c.tensors (automaton v) b.ket (skeleton_shape v c.tensors h.tensors))
+
+-- the plan of the network with the skeleton is that of the expectation
+pub expect_plan : SameExpectLaw → (b : BraketValue) (v : SumValue) (c : ChainValue) (net : NetworkValue) (list : List StepValue) → IsFrame v c → IsExpectNetwork b.group b.bra c.tensors b.ket net
+    → list ≡ planned net → length list ≤ 8448 → sum_by (λ (s : StepValue). s.cost) list < 2 ^ 64 → first_wide net ≡ None → IsExpectPlan b v list
+expect_plan law b v c net list h p told few bounded narrow = record {
+  steps = λ other is.
+      let built = with_automaton b v c.tensors net p in
+      let same = law b.group b.bra (automaton v) b.ket built other (p.0, p.1, refl) is in
+      told
+      ∙ (ap planned p.2
+      ∙ (same_plan_without_entries (expect_network b.group p.0 c.tensors b.ket) built (same_expect b.group p.0 c.tensors (automaton v) b.ket (skeleton_shape v c.tensors h.tensors)) ∙ same_plan built other same));
+  narrow = λ other is.
+      let built = with_automaton b v c.tensors net p in
+      let same = law b.group b.bra (automaton v) b.ket built other (p.0, p.1, refl) is in
+      sym (same_width built other same) ∙ (sym (width_is b v c net p h) ∙ narrow);
+  few = few;
+  bounded = bounded;
+}
 
 -- no step of the network is too wide
 pub narrow_expect : (b : BraketValue) (v : SumValue) (c : ChainValue) (net : NetworkValue) → IsFrame v c → IsExpectNetwork b.group b.bra c.tensors b.ket net → HasNone (IsWideAt v)

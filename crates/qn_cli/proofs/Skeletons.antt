@@ -16,7 +16,7 @@ use Rattle.qn_plan.specs.Planned.{first_wide}
 use Rattle.qn_braket.specs.ChainLabels.{state_labels, operator_labels, expect_upper, expect_lower, expect_bra, expect_op, expect_ket}
 use Rattle.qn_braket.specs.Chains.{with_labels, back_with_labels, expect_members, expect_network, tensor_at, no_tensor}
 use Rattle.qn_cli.specs.Operators.{site_tensor, automaton}
-use Rattle.qn_cli.proofs.BlankSteps.{blank_member, same_width_without_entries}
+use Rattle.qn_cli.proofs.BlankSteps.{blank_member, AreSameButEntries}
 
 -- a tensor without its blocks
 abbrev pub shape : BlockedValue → BlockedValue
@@ -47,13 +47,14 @@ members_told [] = refl
 members_told (m ∷ ms) = ap (λ (ks : List Member). seen m ∷ ks) (members_told ms)
 
 -- networks of members that are seen alike
-same_seen : (fs : List Factor) (ms ns : List LabelledMember) → map slots_here ms ≡ map slots_here ns → map seen ms ≡ map seen ns → first_wide (network_of fs ms None) ≡ first_wide (network_of fs ns None)
-same_seen fs ms ns e f =
-    same_width_without_entries (network_of fs ms None) (network_of fs ns None) refl
-    (ap (λ (ss : List Slot). positives (ends ss)) (slots_told ms ∙ (ap together e ∙ sym (slots_told ns))))
-    refl
-    (legs_told ms ∙ (ap together e ∙ sym (legs_told ns)))
-    (members_told ms ∙ (f ∙ sym (members_told ns)))
+same_seen : (fs : List Factor) (ms ns : List LabelledMember) → map slots_here ms ≡ map slots_here ns → map seen ms ≡ map seen ns → AreSameButEntries (network_of fs ms None) (network_of fs ns None)
+same_seen fs ms ns e f = record {
+  group = refl;
+  order = ap (λ (ss : List Slot). positives (ends ss)) (slots_told ms ∙ (ap together e ∙ sym (slots_told ns)));
+  twists = refl;
+  legs = legs_told ms ∙ (ap together e ∙ sym (legs_told ns));
+  members = members_told ms ∙ (f ∙ sym (members_told ns));
+}
 
 -- the labelled tensors of a chain are seen like those without their blocks
 
@@ -92,8 +93,8 @@ between f xs ys zs ws e =
     map-append f xs (ys ++ ws) ∙ (ap (λ l. map f xs ++ l) (map-append f ys ws ∙ (ap (λ l. l ++ map f ws) e ∙ sym (map-append f zs ws))) ∙ sym (map-append f xs (zs ++ ws)))
 
 -- the networks of an expectation by operators whose tensors differ at most in their blocks
-pub same_expect_width : (fs : List Factor) (cs ts us ket : List BlockedValue) → map shape ts ≡ map shape us → first_wide (expect_network fs cs ts ket) ≡ first_wide (expect_network fs cs us ket)
-same_expect_width fs cs ts us ket e =
+pub same_expect : (fs : List Factor) (cs ts us ket : List BlockedValue) → map shape ts ≡ map shape us → AreSameButEntries (expect_network fs cs ts ket) (expect_network fs cs us ket)
+same_expect fs cs ts us ket e =
     let bras : List LabelledMember = back_with_labels (state_labels expect_upper expect_bra (length cs)) cs in
     let kets : List LabelledMember = with_labels (state_labels expect_lower expect_ket (length ket)) 0 ket in
     same_seen fs (expect_members cs ts ket) (expect_members cs us ket)

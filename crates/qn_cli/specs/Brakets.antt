@@ -1,6 +1,7 @@
 -- What two states come to: their overlap, and the expectation of an operator sum between them.
 -- Source: Fishman, White and Stoudenmire 2022; Jordan and Wigner for the strings of the sum.
-use Rattle.std.specs.Prelude.{◌≡◌, ◌⊎◌, ◌+◌, ℕ, ℤ, List, [], filter, None}
+use Rattle.std.specs.Prelude.{◌≡◌, ◌⊎◌, ◌+◌, ◌≤◌, ◌<◌, ◌^◌, ℕ, ℤ, List, [], length, filter, None}
+use Rattle.std.specs.List.{sum_by}
 use Rattle.qn_gauss.specs.Gaussian.{Gaussian}
 use Rattle.qn_charge.specs.declared.factor.Factor.{Factor}
 use Rattle.qn_charge.specs.Charges.{sum_charge, neg_charge}
@@ -10,7 +11,7 @@ use Rattle.qn_index.specs.Tuples.{admitted}
 use Rattle.qn_value.specs.Magnitudes.{all_blocks}
 use Rattle.qn_block.specs.Blocked.{BlockedValue, is_filled}
 use Rattle.qn_net.specs.NetworkValues.{NetworkValue, passing_place}
-use Rattle.qn_plan.specs.Planned.{first_wide, cost_of_plan}
+use Rattle.qn_plan.specs.Planned.{StepValue, first_wide, cost_of_plan, planned}
 use Rattle.qn_opsum.specs.Sums.{SumValue}
 use Rattle.qn_auto.specs.SumAutomaton.{IsWideAt, PassesAt, made_of}
 use Rattle.qn_paths.specs.Sums.{sum_element}
@@ -111,6 +112,13 @@ IsWideExpectStep f b v = (net : NetworkValue) × IsExpectOf b v net × IsWideSte
 -- F27: the first site at which the automaton is too wide, or where there is none the first step of the network whose result is too wide
 abbrev pub IsWideExpect : Fault → BraketValue → SumValue → Type 0
 IsWideExpect f b v = IsWideSite v f ⊎ (HasNone (IsWideAt v) × IsWideExpectStep f b v)
+
+-- the plan of an expectation: that of its network, in which no step is too wide
+pub record IsExpectPlan (b : BraketValue) (v : SumValue) (plan : List StepValue) : Type 0 where
+  pub steps : (net : NetworkValue) → IsExpectOf b v net → plan ≡ planned net
+  pub narrow : (net : NetworkValue) → IsExpectOf b v net → first_wide net ≡ None
+  pub few : length plan ≤ 8448
+  pub bounded : sum_by (λ s. s.cost) plan < 2 ^ 64
 
 -- the network, where the automaton and the steps are nowhere too wide
 pub record IsNarrowExpect (b : BraketValue) (v : SumValue) (net : NetworkValue) : Type 0 where

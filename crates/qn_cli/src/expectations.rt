@@ -7,41 +7,52 @@ ghost use Rattle.qn_sumdoc.specs.States.{any_states};
 ghost use Rattle.qn_words.specs.declared.words.Job.TheVariants.{Expect};
 ghost use Rattle.qn_cli.specs.Outcomes.{answered};
 ghost use Rattle.qn_cli.specs.Operators.{IsBuildable};
-ghost use Rattle.qn_cli.specs.Brakets.{IsExpectOf, IsExpectText, expect_flux, expect_text, expectation_of, pair_of};
+ghost use Rattle.qn_cli.specs.Brakets.{IsExpectOf, IsExpectPlan, IsExpectText, expect_flux, expect_text, expectation_of, pair_of};
 ghost use Rattle.qn_cli.specs.States.{ArePair, AreTwoStates, ComesToExpect, HasSumSuch, IsOnStates, braket_of};
 ghost use Rattle.qn_cli.specs.Jobs.{Multiplies};
 ghost use Rattle.qn_cli.specs.Answers.{HasNarrow, IsExpectRefusal, IsWidthRefusal, IsWithinBuild, IsWithinExpect, Refuses};
 
 use crate::brakets::states;
-use crate::networks::{plan_steps, value_text};
+use crate::networks::{plan_steps, planned_text};
 use crate::operators::{automaton, wide_site};
 use crate::status::Status;
 use qn_gauss::Steps;
 use qn_mpo::{BuildFault, skeleton};
+use qn_mps::laws::same_expect_law;
 use qn_mps::{Chain, expect_net};
 use qn_net::Network;
 use qn_opsum::OpSum;
 use qn_pair::Gate;
 use qn_paths::laws::sum_law;
+use qn_plan::Step;
 use qn_sumdoc::{AnyStates, States};
 use std::alloc::{AllocError, Global};
 use std::sync::ledger::Ledger;
 use std::thread::Threads;
 
-/// Whether the automaton and the network of an expectation are narrow enough, which the shapes of
-/// the tensors tell before anything is multiplied.
+/// A network and its plan.
+#[derive(Drop)]
+pub(crate) struct PlannedNet<const K: usize> {
+    pub(crate) net: Network<K>,
+    pub(crate) plan: Vec<Step>,
+}
+
+/// The plan of an expectation, where its automaton and its network are narrow enough. The shapes of the tensors tell,
+/// before anything is multiplied.
 #[tactic(auto, using(crate::proofs::ExpectNetworks::kind_fits, crate::proofs::ExpectNetworks::groups_fit, crate::proofs::ExpectNetworks::sites_fit, crate::proofs::ExpectNetworks::frame_on, crate::proofs::ExpectNetworks::narrow_expect, crate::proofs::ExpectNetworks::frame_refusal, crate::proofs::ExpectNetworks::step_refusal))]
-fn check_width<const K: usize>(
+fn narrow_plan<const K: usize>(
     alloc: Global,
     bra: &Chain<K>,
     ket: &Chain<K>,
     sum: &OpSum<K>,
-) -> Result<(), Status>
+) -> Result<Vec<Step>, Status>
     requires pair { ArePair bra.now ket.now }
     requires on { IsOnStates (pair_of bra.now ket.now) sum.now }
+    ensures plan { IfOk result (λ plan. IsExpectPlan (pair_of bra.now ket.now) sum.now plan.items) }
     ensures ok { OnOk result (HasNarrow (pair_of bra.now ket.now) sum.now) }
     ensures err { IfErr result (IsWidthRefusal (pair_of bra.now ket.now) sum.now) }
 {
+    same_expect_law();
     let frame = match skeleton(alloc, sum) {
         Ok(frame) => frame,
         Err(BuildFault::Wide { site }) => return Err(wide_site(site)),
@@ -53,7 +64,7 @@ fn check_width<const K: usize>(
         Err(_) => return Err(Status::Memory),
     };
     match plan_steps(alloc, &net) {
-        Ok(_) => Ok(()),
+        Ok(plan) => Ok(plan),
         Err(status) => Err(status),
     }
 }
@@ -79,7 +90,7 @@ fn expectation_net<const K: usize>(
     expect_net(bra, op, ket)
 }
 
-/// The network of an expectation in which nothing is too wide, or the status in its place.
+/// The network of an expectation in which nothing is too wide, and its plan, or the status in their place.
 #[tactic(auto, using(crate::proofs::ExpectNetworks::width_refused, crate::proofs::ExpectNetworks::build_refused, crate::proofs::ExpectNetworks::within_build_alone, crate::proofs::ExpectNetworks::no_expect_yet, crate::proofs::Costs::not_built))]
 pub(crate) fn narrow_net<const K: usize, L: Ledger>(
     alloc: Global,
@@ -87,22 +98,23 @@ pub(crate) fn narrow_net<const K: usize, L: Ledger>(
     ket: &Chain<K>,
     sum: &OpSum<K>,
     steps: &mut Steps<L>,
-) -> Result<Network<K>, Status>
+) -> Result<PlannedNet<K>, Status>
     requires pair { ArePair bra.now ket.now }
     requires on { IsOnStates (pair_of bra.now ket.now) sum.now }
-    ensures network { IfOk result (IsExpectOf (pair_of bra.now ket.now) sum.now) }
-    ensures value { IfOk result (λ net. value net [] ≡ expectation_of (pair_of bra.now ket.now) sum.now) }
-    ensures flux { IfOk result (λ net. network_flux net ≡ expect_flux (pair_of bra.now ket.now) sum.now) }
+    ensures network { IfOk result (λ made. IsExpectOf (pair_of bra.now ket.now) sum.now made.net) }
+    ensures value { IfOk result (λ made. value made.net [] ≡ expectation_of (pair_of bra.now ket.now) sum.now) }
+    ensures flux { IfOk result (λ made. network_flux made.net ≡ expect_flux (pair_of bra.now ket.now) sum.now) }
+    ensures plan { IfOk result (λ made. IsExpectPlan (pair_of bra.now ket.now) sum.now made.plan.items) }
     ensures narrow { OnOk result (HasNarrow (pair_of bra.now ket.now) sum.now) }
     ensures buildable { OnOk result (IsBuildable sum.now) }
     ensures status { IfErr result (IsExpectRefusal (pair_of bra.now ket.now) sum.now) }
     ensures build { OnOk result (IsWithinBuild sum.now steps.old steps.new) }
     ensures cost { IsWithinExpect (pair_of bra.now ket.now) sum.now steps.old steps.new }
 {
-    check_width(alloc, bra, ket, sum)?;
+    let plan = narrow_plan(alloc, bra, ket, sum)?;
     let op = automaton(alloc, sum, steps)?;
     match expectation_net(bra, ket, sum, &op) {
-        Ok(net) => Ok(net),
+        Ok(net) => Ok(PlannedNet { net, plan }),
         Err(_) => Err(Status::Memory),
     }
 }
@@ -127,8 +139,9 @@ fn expect_text<const K: usize, R: Threads + Sync, G: Gate, L: Ledger>(
     ensures status { IfErr result (IsExpectRefusal (pair_of bra.now ket.now) sum.now) }
     ensures cost { IsWithinExpect (pair_of bra.now ket.now) sum.now steps.old steps.new }
 {
-    let net = narrow_net(alloc, bra, ket, sum, steps)?;
-    value_text(rt, alloc, workers, gate, &net, steps)
+    let made = narrow_net(alloc, bra, ket, sum, steps)?;
+    let plan = made.plan.as_slice();
+    planned_text(rt, alloc, workers, gate, &made.net, plan, steps)
 }
 
 /// The text of the expectation of the operator sum that goes with two states, or the status in its place.

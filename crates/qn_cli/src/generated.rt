@@ -2,7 +2,7 @@
 ghost use Rattle.std.specs.Prelude.{◌≡◌, ◌≤◌, ◌<◌, ◌^◌, ℕ, [], List, None, IfOk, IfErr, length};
 ghost use Rattle.std.specs.List.{sum_by};
 ghost use Rattle.qn_net.specs.NetworkValues.{opens, passing_place, steps as steps_of, value};
-ghost use Rattle.qn_plan.specs.Planned.{cost_of_plan, first_wide};
+ghost use Rattle.qn_plan.specs.Planned.{cost_of_plan, first_wide, planned};
 ghost use Rattle.qn_texts.specs.SummaryTexts.{summary_text};
 ghost use Rattle.qn_gen.specs.Workload.{generated_sum};
 ghost use Rattle.qn_words.specs.declared.words.Job.TheVariants.{Gen};
@@ -13,13 +13,12 @@ ghost use Rattle.qn_cli.specs.States.{ArePair, IsOnStates};
 ghost use Rattle.qn_cli.specs.Jobs.{ComesTo, Multiplies};
 ghost use Rattle.qn_cli.specs.Answers.{IsExpectRefusal, IsValueRefusal, IsWithinExpect, IsWithinPlan, Refuses};
 
-use crate::expectations::narrow_net;
-use crate::networks::{plan_steps, value_of};
+use crate::expectations::{PlannedNet, narrow_net};
+use crate::networks::value_of;
 use crate::status::Status;
 use qn_gauss::Steps;
 use qn_gen::generate;
 use qn_mps::Chain;
-use qn_net::Network;
 use qn_opsum::OpSum;
 use qn_pair::Gate;
 use qn_plan::Step;
@@ -43,31 +42,35 @@ fn total_cost(steps: &[Step]) -> u64
 }
 
 /// The line that sums up a network without open legs, on so many sites, or the status in its place.
-#[tactic(auto, using(crate::proofs::Summaries::summary_told, crate::proofs::Summaries::plan_refused, crate::proofs::Summaries::no_values, crate::proofs::Costs::no_value_yet))]
+#[tactic(auto, using(crate::proofs::Summaries::summary_told, crate::proofs::Summaries::no_values))]
 fn network_summary<const K: usize, R: Threads + Sync, G: Gate, L: Ledger>(
     rt: &R,
     alloc: Global,
     workers: u32,
     gate: &G,
     sites: u32,
-    net: &Network<K>,
+    made: &PlannedNet<K>,
     steps: &mut Steps<L>,
 ) -> Result<Vec<u8>, Status>
     requires some { 1 ≤ workers }
     requires few { workers ≤ 64 }
-    requires closed { opens net.now ≡ [] }
-    ensures text { IfOk result (λ text. (first_wide net.now ≡ None) × (passing_place net.now ≡ None)
-        × (text.items ≡ summary_text (record { sites = sites; scalar = value net.now []; steps = length (steps_of net.now); cost = cost_of_plan net.now }))) }
-    ensures status { IfErr result (IsValueRefusal net.now) }
-    ensures cost { IsWithinPlan net.now steps.old steps.new }
+    requires closed { opens made.now.net ≡ [] }
+    requires planned { made.now.plan.items ≡ planned made.now.net }
+    requires short { length made.now.plan.items ≤ 8448 }
+    requires bounded { sum_by (λ s. s.cost) made.now.plan.items < 2 ^ 64 }
+    requires narrow { first_wide made.now.net ≡ None }
+    ensures text { IfOk result (λ text. (first_wide made.now.net ≡ None) × (passing_place made.now.net ≡ None)
+        × (text.items ≡ summary_text (record { sites = sites; scalar = value made.now.net []; steps = length (steps_of made.now.net); cost = cost_of_plan made.now.net }))) }
+    ensures status { IfErr result (IsValueRefusal made.now.net) }
+    ensures cost { IsWithinPlan made.now.net steps.old steps.new }
 {
-    let plan = plan_steps(alloc, net)?;
-    let tensor = value_of(rt, alloc, workers, gate, net, steps)?;
+    let plan = made.plan.as_slice();
+    let tensor = value_of(rt, alloc, workers, gate, &made.net, plan, steps)?;
     let summary = Summary {
         sites,
         scalar: tensor.entry(&[]),
         steps: plan.len() as u32,
-        cost: total_cost(plan.as_slice()),
+        cost: total_cost(plan),
     };
     match write_summary(alloc, &summary) {
         Ok(text) => Ok(text),
@@ -96,10 +99,10 @@ fn expect_summary<const K: usize, R: Threads + Sync, G: Gate, L: Ledger>(
     ensures status { IfErr result (IsExpectRefusal (pair_of bra.now ket.now) sum.now) }
     ensures cost { IsWithinExpect (pair_of bra.now ket.now) sum.now steps.old steps.new }
 {
-    let net = narrow_net(alloc, bra, ket, sum, steps)?;
+    let made = narrow_net(alloc, bra, ket, sum, steps)?;
     bra.known();
     let sites = bra.sites().len() as u32;
-    network_summary(rt, alloc, workers, gate, sites, &net, steps)
+    network_summary(rt, alloc, workers, gate, sites, &made, steps)
 }
 
 /// The line that sums up the workload of this number, or the status in its place.

@@ -18,7 +18,7 @@ use crate::status::Status;
 use qn_block::BlockTensor;
 use qn_block::laws::blocks_of_entries;
 use qn_doc::{AnyNet, read_network};
-use qn_engine::{EngineFault, evaluate};
+use qn_engine::{EngineFault, evaluate_planned};
 use qn_gauss::Steps;
 use qn_net::Network;
 use qn_pair::Gate;
@@ -80,25 +80,29 @@ fn plan_text_of<const K: usize>(alloc: Global, net: &Network<K>) -> Result<Vec<u
     }
 }
 
-/// The value of a network, or the status in its place.
-#[tactic(auto, using(crate::proofs::Costs::within_plan))]
+/// The value of a network along the plan that was made of it, or the status in its place.
+#[tactic(auto, using(crate::proofs::Costs::within_narrow))]
 pub(crate) fn value_of<const K: usize, R: Threads + Sync, G: Gate, L: Ledger>(
     rt: &R,
     alloc: Global,
     workers: u32,
     gate: &G,
     net: &Network<K>,
+    plan: &[Step],
     steps: &mut Steps<L>,
 ) -> Result<BlockTensor<K>, Status>
     requires some { 1 ≤ workers }
     requires few { workers ≤ 64 }
+    requires planned { plan.now ≡ planned net.now }
+    requires short { length plan.now ≤ 8448 }
+    requires narrow { first_wide net.now ≡ None }
     ensures value { IfOk result (λ t. (first_wide net.now ≡ None) × (passing_place net.now ≡ None) × (t ≡ value_tensor net.now)) }
     ensures evaluated { IfOk result (IsValueOf net.now) }
     ensures status { IfErr result (IsValueRefusal net.now) }
     ensures cost { IsWithinPlan net.now steps.old steps.new }
 {
     blocks_of_entries();
-    match evaluate(rt, alloc, net, workers, gate, steps) {
+    match evaluate_planned(rt, alloc, net, plan, workers, gate, steps) {
         Ok(value) => {
             value.known();
             Ok(value)
@@ -109,7 +113,34 @@ pub(crate) fn value_of<const K: usize, R: Threads + Sync, G: Gate, L: Ledger>(
     }
 }
 
+/// The text of a network's value along the plan that was made of it, or the status in its place.
+pub(crate) fn planned_text<const K: usize, R: Threads + Sync, G: Gate, L: Ledger>(
+    rt: &R,
+    alloc: Global,
+    workers: u32,
+    gate: &G,
+    net: &Network<K>,
+    plan: &[Step],
+    steps: &mut Steps<L>,
+) -> Result<Vec<u8>, Status>
+    requires some { 1 ≤ workers }
+    requires few { workers ≤ 64 }
+    requires planned { plan.now ≡ planned net.now }
+    requires short { length plan.now ≤ 8448 }
+    requires narrow { first_wide net.now ≡ None }
+    ensures text { IfOk result (λ text. (first_wide net.now ≡ None) × (passing_place net.now ≡ None) × (text.items ≡ tensor_text (value_tensor net.now))) }
+    ensures status { IfErr result (IsValueRefusal net.now) }
+    ensures cost { IsWithinPlan net.now steps.old steps.new }
+{
+    let value = value_of(rt, alloc, workers, gate, net, plan, steps)?;
+    match write_tensor(alloc, &value) {
+        Ok(text) => Ok(text),
+        Err(_) => Err(Status::Memory),
+    }
+}
+
 /// The text of a network's value, or the status in its place.
+#[tactic(auto, using(crate::proofs::Summaries::plan_refused, crate::proofs::Costs::no_value_yet))]
 pub(crate) fn value_text<const K: usize, R: Threads + Sync, G: Gate, L: Ledger>(
     rt: &R,
     alloc: Global,
@@ -124,11 +155,8 @@ pub(crate) fn value_text<const K: usize, R: Threads + Sync, G: Gate, L: Ledger>(
     ensures status { IfErr result (IsValueRefusal net.now) }
     ensures cost { IsWithinPlan net.now steps.old steps.new }
 {
-    let value = value_of(rt, alloc, workers, gate, net, steps)?;
-    match write_tensor(alloc, &value) {
-        Ok(text) => Ok(text),
-        Err(_) => Err(Status::Memory),
-    }
+    let plan = plan_steps(alloc, net)?;
+    planned_text(rt, alloc, workers, gate, net, plan.as_slice(), steps)
 }
 
 fn any_plan_text(alloc: Global, any: &AnyNet) -> Result<Vec<u8>, Status>

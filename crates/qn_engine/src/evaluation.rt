@@ -114,23 +114,39 @@ pub fn evaluate<const K: usize, R: Threads + Sync, G: Gate, L: Ledger>(
     ensures steps { steps.new ≤ steps.old + cost_of_plan net.now }
     ensures still { (step : ℕ) → first_wide net.now ≡ Some step → steps.new ≡ steps.old }
 {
+    match planned(alloc, net) {
+        Ok(plan) => evaluate_planned(rt, alloc, net, plan.as_slice(), workers, gate, steps),
+        Err(fault) => Err(fault),
+    }
+}
+
+/// The value of the network, as `evaluate` gives it, along the plan that was made of it.
+pub fn evaluate_planned<const K: usize, R: Threads + Sync, G: Gate, L: Ledger>(
+    rt: &R,
+    alloc: Global,
+    net: &Network<K>,
+    plan: &[Step],
+    workers: u32,
+    gate: &G,
+    steps: &mut Steps<L>,
+) -> Result<BlockTensor<K>, EngineFault>
+    requires some { 1 ≤ workers }
+    requires few { workers ≤ 64 }
+    requires planned { plan.now ≡ planned_steps net.now }
+    requires narrow { first_wide net.now ≡ None }
+    requires short { length plan.now ≤ 8448 }
+    ensures value { IfOk result (IsValueOf net.now) }
+    ensures canonical { IfOk result IsCanonicalTensor }
+    ensures clear { OnOk result (passing_place net.now ≡ None) }
+    ensures err { IfErr result (IsEngineFault net.now) }
+    ensures steps { steps.new ≤ steps.old + cost_of_plan net.now }
+{
     net.known();
     known_steps(net);
-    let planned = match planned(alloc, net) {
-        Ok(planned) => planned,
-        Err(fault) => return Err(fault),
-    };
     let mut parts = start(alloc, net)?;
-    for i in 0..planned.len() {
+    for i in 0..plan.len() {
         match take_step(
-            rt,
-            alloc,
-            &mut parts,
-            &planned[i],
-            i as u32,
-            workers,
-            gate,
-            steps,
+            rt, alloc, &mut parts, &plan[i], i as u32, workers, gate, steps,
         ) {
             Ok(()) => {}
             Err(fault) => return Err(fault),

@@ -11,5 +11,5 @@ mod steps;
 #[cfg(test)]
 mod tests;
 
-pub use evaluation::evaluate;
+pub use evaluation::{evaluate, evaluate_planned};
 pub use fault::EngineFault;

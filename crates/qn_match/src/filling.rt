@@ -12,11 +12,32 @@ use smallvec::SmallVec;
 use std::alloc::{AllocError, Global};
 use std::cmp::Ordering;
 
-/// How the tuple of a task stands to another, compared leg by leg from the first.
-fn compare(task: &Task, out: &[u32]) -> Ordering
+/// How a tuple stands to another, compared leg by leg from the first. Tuples are short: a plain walk is several times as
+/// fast as the comparison of slices, which goes by groups.
+fn compare(tuple: &[u32], out: &[u32]) -> Ordering
+    ensures { result ≡ slice_cmp nat_cmp tuple.now out.now }
+{
+    let Some((first, later)) = tuple.split_first() else {
+        return if out.is_empty() {
+            Ordering::Equal
+        } else {
+            Ordering::Less
+        };
+    };
+    let Some((other, rest)) = out.split_first() else {
+        return Ordering::Greater;
+    };
+    match first.cmp(other) {
+        Ordering::Equal => compare(later, rest),
+        unequal => unequal,
+    }
+}
+
+/// How the tuple of a task stands to another.
+fn compare_task(task: &Task, out: &[u32]) -> Ordering
     ensures { result ≡ slice_cmp nat_cmp task.now.out out.now }
 {
-    task.out.as_slice().cmp(out)
+    compare(task.out.as_slice(), out)
 }
 
 /// Where the task of this tuple stands.
@@ -24,7 +45,7 @@ fn find(tasks: &[Task], out: &[u32]) -> Option<usize>
     requires { AreInOrder tasks.now }
     ensures { MatchOption result (All (λ t. same_values out.now t.out ≡ false) tasks.now) (λ k. (k < length tasks.now) × ((slice_index_or tasks.now k no_task).out ≡ out.now)) }
 {
-    match tasks.binary_search_by(|task| compare(task, out)) {
+    match tasks.binary_search_by(|task| compare_task(task, out)) {
         Ok(k) => Some(k),
         Err(_) => None,
     }

@@ -1,53 +1,6 @@
-use Rattle.std.proofs.Common.{◌≡◌, ◌<◌, lit<, length, ◌∙◌, arith}
-use Rattle.qn_engine.proofs.Evaluating.{next_is, under_next, under_cost, ended, never_wide}
+use Rattle.std.proofs.Common.{◌∙◌, lit<, ap, length}
+use Rattle.qn_engine.proofs.Evaluating.{never_wide}
 use Rattle.qn_engine.proofs.evaluation.evaluate.Goals as goal
 
-pub take_step-requires-after_bounds : goal.take_step-requires-after_bounds
-take_step-requires-after_bounds g c = λ κs h.
-    let lt : c.loop-i.i < length c.in-Ok.planned.items = omega arith in
-    let few : c.loop-i.i < 2147483648 = omega (arith, lt, c.in-Ok.ensures.few) in
-    (lit< tt, (few, (c.requires.some, (c.requires.few, (c.args.net.now, next_is c.args.net.now c.in-Ok.planned.items c.in-Ok.ensures.steps c.known.ensures.well_formed c.known_steps.ensures.ready c.in-Ok.ensures.narrow c.known_steps.ensures.place c.loop-i.i c.index.result.now c.loop-i.parts.items c.args.steps.now c.loop-i.steps lt c.index.ensures c.loop-i.invariant)))))
-
-pub loop-i-preserved : goal.loop-i-preserved
-loop-i-preserved g c =
-    let lt : c.loop-i.i < length c.in-Ok.planned.items = omega arith in
-    under_next c.args.net.now c.in-Ok.planned.items c.in-Ok.ensures.steps c.loop-i.i c.index.result.now c.loop-i.parts.items c.args.steps.now c.loop-i.steps c.take_step.new.steps lt c.index.ensures c.loop-i.invariant c.take_step.ensures.steps c.take_step.new.parts.items (c.in-Ok-take_step.ensures.carried c.args.net.now (next_is c.args.net.now c.in-Ok.planned.items c.in-Ok.ensures.steps c.known.ensures.well_formed c.known_steps.ensures.ready c.in-Ok.ensures.narrow c.known_steps.ensures.place c.loop-i.i c.index.result.now c.loop-i.parts.items c.args.steps.now c.loop-i.steps lt c.index.ensures c.loop-i.invariant))
-
-pub finished-requires-after_bounds : goal.finished-requires-after_bounds
-finished-requires-after_bounds g c = λ κs h.
-    let at : c.loop-i.i ≡ length c.in-Ok.planned.items = omega arith in
-    (lit< tt, (lit< tt, (c.args.net.now, (ended c.args.net.now c.in-Ok.planned.items c.in-Ok.ensures.steps c.known.ensures.well_formed c.loop-i.i c.loop-i.parts.items c.args.steps.now c.loop-i.steps at c.loop-i.invariant).finished)))
-
-pub returns-clause-clear : goal.returns-clause-clear
-returns-clause-clear g c =
-    let at : c.loop-i.i ≡ length c.in-Ok.planned.items = omega arith in
-    c.known_steps.ensures.place ∙ (ended c.args.net.now c.in-Ok.planned.items c.in-Ok.ensures.steps c.known.ensures.well_formed c.loop-i.i c.loop-i.parts.items c.args.steps.now c.loop-i.steps at c.loop-i.invariant).clear
-
-pub returns-clause-steps : goal.returns-clause-steps
-returns-clause-steps g c =
-    let at : c.loop-i.i ≡ length c.in-Ok.planned.items = omega arith in
-    (ended c.args.net.now c.in-Ok.planned.items c.in-Ok.ensures.steps c.known.ensures.well_formed c.loop-i.i c.loop-i.parts.items c.args.steps.now c.loop-i.steps at c.loop-i.invariant).ticks
-
-pub returns-clause-value : goal.returns-clause-value
-returns-clause-value g c =
-    let at : c.loop-i.i ≡ length c.in-Ok.planned.items = omega arith in
-    c.in_ok-finished.ensures.value c.args.net.now (ended c.args.net.now c.in-Ok.planned.items c.in-Ok.ensures.steps c.known.ensures.well_formed c.loop-i.i c.loop-i.parts.items c.args.steps.now c.loop-i.steps at c.loop-i.invariant).finished
-
-pub returns-in-Err-take_step-clause-err : goal.returns-in-Err-take_step-clause-err
-returns-in-Err-take_step-clause-err g c =
-    let lt : c.loop-i.i < length c.in-Ok.planned.items = omega arith in
-    c.in-Err-take_step.ensures.err c.args.net.now (next_is c.args.net.now c.in-Ok.planned.items c.in-Ok.ensures.steps c.known.ensures.well_formed c.known_steps.ensures.ready c.in-Ok.ensures.narrow c.known_steps.ensures.place c.loop-i.i c.index.result.now c.loop-i.parts.items c.args.steps.now c.loop-i.steps lt c.index.ensures c.loop-i.invariant)
-
-pub returns-in-Err-take_step-clause-steps : goal.returns-in-Err-take_step-clause-steps
-returns-in-Err-take_step-clause-steps g c =
-    let lt : c.loop-i.i < length c.in-Ok.planned.items = omega arith in
-    under_cost c.args.net.now c.in-Ok.planned.items c.in-Ok.ensures.steps c.loop-i.i c.index.result.now c.loop-i.parts.items c.args.steps.now c.loop-i.steps c.take_step.new.steps lt c.index.ensures c.loop-i.invariant c.take_step.ensures.steps
-
-pub returns-clause-still : goal.returns-clause-still
-returns-clause-still g c = λ step e. absurd (never_wide _ step c.in-Ok.ensures.narrow e)
-
-pub returns-in-Err-take_step-clause-still : goal.returns-in-Err-take_step-clause-still
-returns-in-Err-take_step-clause-still g c = λ step e. absurd (never_wide _ step c.in-Ok.ensures.narrow e)
-
-pub returns-in_err-finished-clause-still : goal.returns-in_err-finished-clause-still
-returns-in_err-finished-clause-still g c = λ step e. absurd (never_wide _ step c.in-Ok.ensures.narrow e)
+pub returns-in-Ok-clause-still : goal.returns-in-Ok-clause-still
+returns-in-Ok-clause-still g c = λ step e. absurd (never_wide _ step c.in-Ok.ensures.narrow e)
