@@ -6,7 +6,7 @@ use Rattle.serde_json.specs.Data.{Data}
 use Rattle.qn_sites.specs.Sites.{SiteValue}
 use Rattle.qn_opsum.specs.Sums.{SumValue}
 use Rattle.qn_mps.specs.Chains.{ChainValue}
-use Rattle.qn_parts.specs.Tree.{tree_of}
+use Rattle.qn_json.specs.Tree.{tree_of}
 use Rattle.qn_sumdoc.specs.StatesValues.{StatesValue}
 use Rattle.qn_sumdoc.specs.States.{AreStatesOf, IsOptionalSum}
 use Rattle.qn_words.specs.declared.words.Job.TheVariants.{Expect}

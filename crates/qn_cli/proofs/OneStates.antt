@@ -10,7 +10,7 @@ use Rattle.qn_mps.specs.declared.fault.ChainFault.TheVariants.{ChainShape, LinkC
 use Rattle.qn_opsum.specs.Sums.{SumValue}
 use Rattle.qn_parts.specs.declared.fault.Fault.{Fault}
 use Rattle.qn_parts.specs.Faults.{fault}
-use Rattle.qn_parts.specs.Tree.{tree_of}
+use Rattle.qn_json.specs.Tree.{tree_of}
 use Rattle.qn_sumdoc.specs.Sites.{sites_of}
 use Rattle.qn_sumdoc.specs.Sums.{IsSumOf}
 use Rattle.qn_sumdoc.specs.Chains.{site_legs, tensors_of, tensors_fault, placed, IsFaultOfChain, IsRightChain}

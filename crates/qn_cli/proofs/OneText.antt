@@ -12,13 +12,13 @@ use Rattle.qn_net.specs.Groups.Role.{tensor, fuse_table, split_table}
 use Rattle.qn_net.specs.Refusals.{network_of}
 use Rattle.qn_braket.specs.Chains.{with_labels}
 use Rattle.qn_charge.specs.declared.factor.Factor.{Factor}
-use Rattle.qn_parts.specs.TensorTexts.{list_data, factor_data, block_data, charge_data, leg_data}
+use Rattle.qn_json.specs.Texts.{list_data, line_of}
+use Rattle.qn_parts.specs.TensorTexts.{factor_data, block_data, charge_data, leg_data}
 use Rattle.serde_json.specs.Data.{object, member, no_members}
 use Rattle.std.specs.Prelude.{codes}
 use Rattle.qn_net.specs.Members.{MemberValue, LabelledMember, placed_member, role_of, member_tensor, IsHeld}
 use Rattle.qn_net.specs.Members.MemberValue.{own, fuse, split}
 use Rattle.qn_net.specs.NetworkValues.{PlacedMember}
-use Rattle.qn_parts.specs.Texts.{line_of}
 use Rattle.qn_doc.specs.NetworkTexts.{own_data, labelled_data, labels_data, member_data, network_data, IsTextOf}
 use Rattle.qn_cli.proofs.Automata.{told}
 

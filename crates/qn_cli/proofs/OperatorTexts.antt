@@ -11,7 +11,7 @@ use Rattle.qn_mps.specs.Networks.{chain_network, members_of_kind}
 use Rattle.qn_mps.specs.declared.chain.ChainKind.{ChainKind}
 use Rattle.qn_net.specs.NetworkValues.{NetworkValue}
 use Rattle.qn_net.specs.Refusals.{network_of}
-use Rattle.qn_parts.specs.Texts.{line_of}
+use Rattle.qn_json.specs.Texts.{line_of}
 use Rattle.qn_doc.specs.NetworkTexts.{network_data, IsTextOf}
 use Rattle.qn_mpo.specs.Builds.{IsBuilt}
 use Rattle.qn_cli.specs.Operators.{operator_text}

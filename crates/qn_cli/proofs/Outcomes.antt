@@ -10,7 +10,7 @@ use Rattle.qn_net.proofs.OneFault.{one_fault, no_fault}
 use Rattle.qn_plan.specs.Planned.{planned, first_wide}
 use Rattle.qn_parts.specs.declared.fault.Fault.{Fault}
 use Rattle.qn_parts.specs.Faults.{fault}
-use Rattle.qn_parts.specs.Tree.{tree_of}
+use Rattle.qn_json.specs.Tree.{tree_of}
 use Rattle.qn_parts.specs.TensorTexts.{tensor_text}
 use Rattle.qn_doc.specs.LabelFaults.{placed}
 use Rattle.qn_doc.specs.Networks.{IsLabelFault, bytes_fault, members_of, order_of}

@@ -10,7 +10,7 @@ use Rattle.qn_braket.specs.Chains.{chain_flux, overlap}
 use Rattle.qn_braket.specs.ChainLaws.{network_flux}
 use Rattle.qn_mps.specs.Chains.{ChainValue}
 use Rattle.qn_parts.specs.TensorTexts.{tensor_text}
-use Rattle.qn_parts.specs.Tree.{tree_of}
+use Rattle.qn_json.specs.Tree.{tree_of}
 use Rattle.qn_words.specs.declared.words.Job.TheVariants.{Overlap}
 use Rattle.qn_sumdoc.specs.StatesValues.{StatesValue}
 use Rattle.qn_sumdoc.specs.States.{AreStatesOf}

@@ -12,7 +12,7 @@ use Rattle.qn_plan.specs.Planned.{planned, first_wide}
 use Rattle.qn_parts.specs.declared.fault.Fault.{Fault}
 use Rattle.qn_parts.specs.Faults.{fault}
 use Rattle.qn_parts.specs.TensorTexts.{tensor_text}
-use Rattle.qn_parts.specs.Tree.{tree_of}
+use Rattle.qn_json.specs.Tree.{tree_of}
 use Rattle.qn_doc.specs.Networks.{IsNetworkOf, bytes_fault, IsLabelFaultIn}
 use Rattle.qn_texts.specs.PlanTexts.{plan_text}
 use Rattle.qn_cli.specs.Outcomes.{Outcome, refused, passed, answered}

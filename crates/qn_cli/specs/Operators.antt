@@ -14,8 +14,8 @@ use Rattle.qn_paths.specs.Sums.{site_legs, sum_element}
 use Rattle.qn_braket.specs.Chains.{element, operator_members, operator_network}
 use Rattle.qn_parts.specs.declared.fault.Fault.{Fault}
 use Rattle.qn_parts.specs.Faults.{fault}
-use Rattle.qn_parts.specs.Texts.{line_of}
-use Rattle.qn_parts.specs.Tree.{tree_of}
+use Rattle.qn_json.specs.Texts.{line_of}
+use Rattle.qn_json.specs.Tree.{tree_of}
 use Rattle.qn_doc.specs.NetworkTexts.{network_data}
 use Rattle.qn_sumdoc.specs.Sums.{IsSumOf, IsTermsFaultIn, bytes_fault}
 use Rattle.qn_cli.specs.Outcomes.{Outcome, refused, passed, answered}

@@ -6,7 +6,7 @@ use Rattle.qn_opsum.specs.Sums.{SumValue}
 use Rattle.qn_mps.specs.Chains.{ChainValue}
 use Rattle.qn_mps.specs.declared.chain.ChainKind.TheVariants.{State}
 use Rattle.qn_parts.specs.declared.fault.Fault.{Fault}
-use Rattle.qn_parts.specs.Tree.{tree_of}
+use Rattle.qn_json.specs.Tree.{tree_of}
 use Rattle.qn_sumdoc.specs.StatesValues.{StatesValue}
 use Rattle.qn_sumdoc.specs.States.{AreStatesOf, IsLaterFaultIn, bytes_fault}
 use Rattle.qn_cli.specs.Outcomes.{Outcome}

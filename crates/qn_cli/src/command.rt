@@ -29,28 +29,29 @@ use std::alloc::Global;
 use std::sync::ledger::Ledger;
 use std::thread::Threads;
 
-/// The text that answers the bytes, or the status in its place.
+/// The text that answers the bytes, or the status in its place. The bytes of a network are let go
+/// once it stands.
 #[tactic(auto, using(crate::proofs::Costs::nothing))]
 fn text_for<G: Gate, L: Ledger, R: Threads + Sync>(
     rt: &R,
     alloc: Global,
     job: Job,
     gate: &G,
-    bytes: &[u8],
+    bytes: Vec<u8>,
     steps: &mut Steps<L>,
 ) -> Result<Vec<u8>, Status>
     requires workers { HasWorkers job }
-    ensures text { IfOk result (λ text. ComesTo job bytes.now (answered text.items)) }
-    ensures elements { OnOk result (job ≡ Mpo → HasElementsIn bytes.now) }
-    ensures status { IfErr result (Refuses job bytes.now) }
-    ensures cost { Multiplies job bytes.now steps.old steps.new }
+    ensures text { IfOk result (λ text. ComesTo job bytes.items (answered text.items)) }
+    ensures elements { OnOk result (job ≡ Mpo → HasElementsIn bytes.items) }
+    ensures status { IfErr result (Refuses job bytes.items) }
+    ensures cost { Multiplies job bytes.items steps.old steps.new }
 {
     match job {
         Job::Contract { workers } => contract(rt, alloc, workers, gate, bytes, steps),
         Job::Plan => plan_of(alloc, bytes),
-        Job::Mpo => mpo(alloc, bytes, steps),
-        Job::Overlap { workers } => overlap(rt, alloc, workers, gate, bytes, steps),
-        Job::Expect { workers } => expect(rt, alloc, workers, gate, bytes, steps),
+        Job::Mpo => mpo(alloc, bytes.as_slice(), steps),
+        Job::Overlap { workers } => overlap(rt, alloc, workers, gate, bytes.as_slice(), steps),
+        Job::Expect { workers } => expect(rt, alloc, workers, gate, bytes.as_slice(), steps),
         Job::Gen { seed, workers } => summary_of(rt, alloc, workers, gate, seed, steps),
     }
 }
@@ -69,15 +70,15 @@ fn answer<O: Sink, G: Gate, L: Ledger, R: Threads + Sync>(
     rt: &R,
     alloc: Global,
     job: Job,
-    bytes: &[u8],
+    bytes: Vec<u8>,
     out: &mut O,
     gate: &G,
     steps: &mut Steps<L>,
 ) -> Status
     requires workers { HasWorkers job }
-    ensures tells { Tells job bytes.now (O.held out.old) (O.held out.new) result }
-    ensures cost { Multiplies job bytes.now steps.old steps.new }
-    ensures elements { result ≡ Status.Done → job ≡ Mpo → HasElementsIn bytes.now }
+    ensures tells { Tells job bytes.items (O.held out.old) (O.held out.new) result }
+    ensures cost { Multiplies job bytes.items steps.old steps.new }
+    ensures elements { result ≡ Status.Done → job ≡ Mpo → HasElementsIn bytes.items }
     ensures no_read { result ≢ Status.ReadFault }
     ensures write_fault { result ≡ Status.WriteFault → Rose (O.faults out.old) (O.faults out.new) }
     ensures untouched { result ≢ Status.Done → result ≢ Status.WriteFault → out.new ≡ out.old }
@@ -119,7 +120,7 @@ fn attempt<S: Source, O: Sink, G: Gate, L: Ledger, R: Threads + Sync>(
         Err(ReadAllFault::TooLong) => return too_long(),
         Err(ReadAllFault::Memory) => return Status::Memory,
     };
-    answer(rt, alloc, job, bytes.as_slice(), out, gate, steps)
+    answer(rt, alloc, job, bytes, out, gate, steps)
 }
 
 /// Whether the job reads its document.
@@ -155,7 +156,7 @@ fn obey<S: Source, O: Sink, G: Gate, L: Ledger, R: Threads + Sync>(
 {
     match read_words(words) {
         Ok(job) if is_read(job) => attempt(rt, alloc, job, source, out, gate, steps),
-        Ok(job) => answer(rt, alloc, job, &[], out, gate, steps),
+        Ok(job) => answer(rt, alloc, job, Vec::new(alloc), out, gate, steps),
         Err(word) => Status::Usage { word },
     }
 }

@@ -29,12 +29,12 @@ use std::alloc::Global;
 use std::sync::ledger::Ledger;
 use std::thread::Threads;
 
-/// The network that the bytes say, or the status in its place.
-fn network(alloc: Global, bytes: &[u8]) -> Result<AnyNet, Status>
-    ensures ok { IfOk result (λ any. IsNetworkIn bytes.now (any_network any)) }
-    ensures err { IfErr result (IsReadFault bytes.now) }
+/// The network that the bytes say, or the status in its place. The bytes are let go.
+fn network(alloc: Global, bytes: Vec<u8>) -> Result<AnyNet, Status>
+    ensures ok { IfOk result (λ any. IsNetworkIn bytes.items (any_network any)) }
+    ensures err { IfErr result (IsReadFault bytes.items) }
 {
-    match read_network(alloc, bytes) {
+    match read_network(alloc, bytes.as_slice()) {
         Ok(any) => Ok(any),
         Err(DocFault::Bad(fault)) => Err(Status::Malformed { fault }),
         Err(DocFault::Memory) => Err(Status::Memory),
@@ -196,9 +196,9 @@ fn any_value_text<R: Threads + Sync, G: Gate, L: Ledger>(
 }
 
 /// The text of the plan of the network that the bytes say, or the status in its place.
-pub(crate) fn plan_of(alloc: Global, bytes: &[u8]) -> Result<Vec<u8>, Status>
-    ensures text { IfOk result (λ text. Plans bytes.now (answered text.items)) }
-    ensures status { IfErr result (Refuses Plan bytes.now) }
+pub(crate) fn plan_of(alloc: Global, bytes: Vec<u8>) -> Result<Vec<u8>, Status>
+    ensures text { IfOk result (λ text. Plans bytes.items (answered text.items)) }
+    ensures status { IfErr result (Refuses Plan bytes.items) }
 {
     let any = network(alloc, bytes)?;
     any_plan_text(alloc, &any)
@@ -211,14 +211,14 @@ pub(crate) fn contract<R: Threads + Sync, G: Gate, L: Ledger>(
     alloc: Global,
     workers: u32,
     gate: &G,
-    bytes: &[u8],
+    bytes: Vec<u8>,
     steps: &mut Steps<L>,
 ) -> Result<Vec<u8>, Status>
     requires some { 1 ≤ workers }
     requires few { workers ≤ 64 }
-    ensures text { IfOk result (λ text. Contracts bytes.now (answered text.items)) }
-    ensures status { IfErr result (Refuses (Contract workers) bytes.now) }
-    ensures cost { Multiplies (Contract workers) bytes.now steps.old steps.new }
+    ensures text { IfOk result (λ text. Contracts bytes.items (answered text.items)) }
+    ensures status { IfErr result (Refuses (Contract workers) bytes.items) }
+    ensures cost { Multiplies (Contract workers) bytes.items steps.old steps.new }
 {
     let any = network(alloc, bytes)?;
     any_value_text(rt, alloc, workers, gate, &any, steps)

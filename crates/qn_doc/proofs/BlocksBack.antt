@@ -11,13 +11,13 @@ use Rattle.qn_index.specs.Legs.{LegValue, IsSound}
 use Rattle.qn_index.specs.Tuples.{IsTuple}
 use Rattle.qn_value.specs.Tensors.{BlockValue, IsBlock}
 use Rattle.qn_parts.specs.Faults.{fault, first_of, first_bad}
-use Rattle.qn_parts.specs.Forms.{is_whole}
+use Rattle.qn_json.specs.Forms.{is_whole, are_numbers}
 use Rattle.qn_parts.specs.Sectors.{number_of}
-use Rattle.qn_parts.specs.Entries.{is_entry, entry_of, gauss_of}
-use Rattle.qn_parts.specs.Tensors.{are_numbers, are_entries, is_block, are_blocks, sector_number, tuple_of, entry_or_zero, block_of, entry_fault}
-use Rattle.qn_parts.specs.Texts.{entry_data}
-use Rattle.qn_parts.specs.TensorTexts.{list_data, count_data, block_data}
-use Rattle.qn_parts.proofs.Decimals.{decimal_found}
+use Rattle.qn_json.specs.Entries.{is_entry, entry_of, gauss_of, are_entries}
+use Rattle.qn_parts.specs.Tensors.{is_block, are_blocks, sector_number, tuple_of, entry_or_zero, block_of, entry_fault}
+use Rattle.qn_json.specs.Texts.{entry_data, list_data, count_data}
+use Rattle.qn_parts.specs.TensorTexts.{block_data}
+use Rattle.qn_json.proofs.Decimals.{decimal_found}
 use Rattle.qn_doc.specs.TensorsReadBack.{HasGaussians}
 use Rattle.qn_doc.proofs.Written.{listed_items, items_back, all_back, map_back, first_bad_none, first_from_none}
 use Rattle.qn_doc.proofs.NumbersBack.{count_number, is_count_back}

@@ -10,7 +10,8 @@ use Rattle.qn_charge.specs.declared.factor.Factor.TheVariants.{U1, Zn}
 use Rattle.qn_charge.specs.Charges.{IsFactor, IsGroup}
 use Rattle.qn_parts.specs.Faults.{fault, fault_if, first_of}
 use Rattle.qn_parts.specs.Groups.{is_factor, is_group, factor_of, has_bad_modulus, is_odd_fermion, modulus_fault, group_fault}
-use Rattle.qn_parts.specs.TensorTexts.{list_data, factor_data}
+use Rattle.qn_json.specs.Texts.{list_data}
+use Rattle.qn_parts.specs.TensorTexts.{factor_data}
 use Rattle.qn_doc.proofs.Written.{listed_items, all_back, map_back, first_bad_none, first_from_none}
 use Rattle.qn_doc.proofs.NumbersBack.{count_back}
 

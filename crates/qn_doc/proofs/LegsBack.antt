@@ -7,7 +7,7 @@ use Rattle.std.proofs.Math.Dec.{eqb-suc-zero}
 use Rattle.std.proofs.lemmas.List.{length-map}
 use Rattle.std.proofs.lemmas.List.Elements.{All-nil, All-cons, All-head, All-tail, All-weaker}
 use Rattle.serde_json.specs.Data.{string}
-use Rattle.qn_parts.specs.Forms.{is_word}
+use Rattle.qn_json.specs.Forms.{is_word}
 use Rattle.qn_charge.specs.declared.factor.Factor.{Factor}
 use Rattle.qn_charge.specs.Charges.{IsGroup}
 use Rattle.qn_charge.specs.Laws.{within_more}
@@ -18,7 +18,8 @@ use Rattle.qn_parts.specs.declared.fault.Fault.{Fault}
 use Rattle.qn_parts.specs.Faults.{fault, first_of}
 use Rattle.qn_parts.specs.Sectors.{is_sector, is_sectors, dim_of, sector_of, first_out, has_charge_out, is_dim_out, dims_fault, sectors_fault}
 use Rattle.qn_parts.specs.Tensors.{is_arrow, is_leg, are_legs, leg_of, leg_fault, sectors_data}
-use Rattle.qn_parts.specs.TensorTexts.{list_data, arrow_word, sector_data, leg_data}
+use Rattle.qn_json.specs.Texts.{list_data}
+use Rattle.qn_parts.specs.TensorTexts.{arrow_word, sector_data, leg_data}
 use Rattle.qn_doc.proofs.Written.{listed_items, items_back, all_back, map_back, first_bad_none, first_from_none}
 use Rattle.qn_doc.proofs.NumbersBack.{Small, count_number, is_count_back, small_charge, charge_length, is_charge_back, charge_back, first_out_none}
 

@@ -18,11 +18,12 @@ use Rattle.qn_block.specs.Combiners.{CombinerValue, IsCombiner}
 use Rattle.qn_net.specs.Members.{MemberValue, LabelledMember}
 use Rattle.qn_net.specs.Members.MemberValue.{own, fuse, split}
 use Rattle.qn_parts.specs.Faults.{fault, fault_if, first_of}
-use Rattle.qn_parts.specs.Forms.{has, is_whole, is_list}
+use Rattle.qn_json.specs.Forms.{has, is_whole, is_list, are_numbers}
 use Rattle.qn_parts.specs.Groups.{factor_of, group_fault}
 use Rattle.qn_parts.specs.Sectors.{number_of}
-use Rattle.qn_parts.specs.Tensors.{are_numbers, is_tensor, tensor_of, tensor_fault, legs_data, leg_of, leg_fault}
-use Rattle.qn_parts.specs.TensorTexts.{list_data, whole_data, factor_data, leg_data}
+use Rattle.qn_parts.specs.Tensors.{is_tensor, tensor_of, tensor_fault, legs_data, leg_of, leg_fault}
+use Rattle.qn_json.specs.Texts.{list_data, whole_data}
+use Rattle.qn_parts.specs.TensorTexts.{factor_data, leg_data}
 use Rattle.qn_parts.specs.Documents.{group_data, factors_of}
 use Rattle.qn_doc.specs.Combiners.{is_combiner, is_split, combiner_of, has_fused_leg, table_legs, table_fault, combiner_fault, IsTable}
 use Rattle.qn_doc.specs.Members.{is_member, numbers_of, member_value_of, labelled_of, member_fault}

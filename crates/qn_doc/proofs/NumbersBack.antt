@@ -9,10 +9,11 @@ use Rattle.std.proofs.lemmas.List.Elements.{All-nil, All-cons, All-head, All-tai
 use Rattle.qn_charge.specs.declared.factor.Factor.{Factor}
 use Rattle.qn_charge.specs.declared.factor.Factor.TheVariants.{U1, Zn}
 use Rattle.qn_charge.specs.Charges.{IsFactor, IsGroup, IsCanonicalPart, IsPartWithin, IsCanonical, IsWithin}
-use Rattle.qn_parts.specs.Forms.{is_whole}
-use Rattle.qn_parts.specs.Tree.{whole_of}
+use Rattle.qn_json.specs.Forms.{is_whole}
+use Rattle.qn_json.specs.Tree.{whole_of}
 use Rattle.qn_parts.specs.Sectors.{is_charge, number_of, numbers, charge_of, is_part_out, first_out}
-use Rattle.qn_parts.specs.TensorTexts.{count_data, whole_data, charge_data}
+use Rattle.qn_json.specs.Texts.{count_data, whole_data}
+use Rattle.qn_parts.specs.TensorTexts.{charge_data}
 use Rattle.qn_doc.proofs.Written.{listed_items, all_back}
 
 -- ---- numbers

@@ -8,8 +8,8 @@ use Rattle.std.proofs.lemmas.List.{length-map}
 use Rattle.std.proofs.lemmas.List.Elements.{All-filter}
 use Rattle.serde_json.specs.Data.{Data, null}
 use Rattle.serde_json.specs.Find.{get}
-use Rattle.qn_parts.specs.Forms.{has}
-use Rattle.qn_parts.specs.Tree.{items}
+use Rattle.qn_json.specs.Forms.{has}
+use Rattle.qn_json.specs.Tree.{items}
 use Rattle.qn_index.specs.Legs.{LegValue}
 use Rattle.qn_value.specs.Tensors.{BlockValue}
 use Rattle.qn_block.specs.Blocked.{BlockedValue, IsBlocked, is_filled}
@@ -19,7 +19,8 @@ use Rattle.qn_parts.specs.Faults.{fault, fault_if, first_of}
 use Rattle.qn_parts.specs.Groups.{factor_of, group_fault}
 use Rattle.qn_parts.specs.Sectors.{is_charge, charge_of}
 use Rattle.qn_parts.specs.Tensors.{are_legs, are_blocks, is_tensor, leg_of, legs_data, legs_of, flux_of, blocks_data, blocks_of, block_of, tensor_of, leg_fault, flux_fault, made_fault, entry_fault, parts_fault, tensor_fault}
-use Rattle.qn_parts.specs.TensorTexts.{list_data, factor_data, charge_data, leg_data, block_data, tensor_data}
+use Rattle.qn_json.specs.Texts.{list_data}
+use Rattle.qn_parts.specs.TensorTexts.{factor_data, charge_data, leg_data, block_data, tensor_data}
 use Rattle.qn_parts.specs.Documents.{group_data, factors_of, is_tensor_document, tensor_document_fault, IsTensorOf}
 use Rattle.qn_parts.proofs.BlockWalk.{made_right}
 use Rattle.qn_doc.specs.TensorsReadBack.{HasGaussians, IsPrintable, canonical, TensorReadsBack, TensorTextReadsBack}

@@ -9,7 +9,8 @@ use Rattle.qn_block.specs.Blocked.{is_filled}
 use Rattle.qn_block.specs.Combiners.{CombinerValue}
 use Rattle.qn_net.specs.Members.{MemberValue, LabelledMember}
 use Rattle.qn_net.specs.Members.MemberValue.{own, fuse, split}
-use Rattle.qn_parts.specs.TensorTexts.{whole_data, factor_data, leg_data, block_data}
+use Rattle.qn_json.specs.Texts.{whole_data}
+use Rattle.qn_parts.specs.TensorTexts.{factor_data, leg_data, block_data}
 use Rattle.qn_parts.proofs.Depths as depths
 use Rattle.qn_doc.specs.NetworkTexts.{table_data, labelled_data, member_data, network_data}
 

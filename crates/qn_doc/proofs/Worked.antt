@@ -13,7 +13,7 @@ use Rattle.qn_net.specs.Members.{LabelledMember, IsHeld}
 use Rattle.qn_net.specs.Refusals.{IsLabel}
 use Rattle.qn_net.specs.Examples.{trace_alone}
 use Rattle.qn_net.proofs.WorkedPremises.{well_formed}
-use Rattle.qn_parts.specs.Tree.{tree_of}
+use Rattle.qn_json.specs.Tree.{tree_of}
 use Rattle.qn_doc.specs.NetworkTexts.{network_data}
 use Rattle.qn_doc.specs.TensorsReadBack.{HasGaussians, IsPrintable}
 use Rattle.qn_doc.specs.NetworksReadBack.{IsNumber, IsPrintableMember, IsPrintableNetwork, HasLabels, IsDocumentOf}

@@ -8,8 +8,8 @@ use Rattle.serde_json.specs.Data.{Data}
 use Rattle.serde_json.specs.View.{items_of}
 use Rattle.qn_parts.specs.declared.fault.Fault.{Fault}
 use Rattle.qn_parts.specs.Faults.{first_from, first_bad}
-use Rattle.qn_parts.specs.Tree.{listed, items}
-use Rattle.qn_parts.specs.TensorTexts.{list_data}
+use Rattle.qn_json.specs.Tree.{listed, items}
+use Rattle.qn_json.specs.Texts.{list_data}
 
 pub listed_items : (ds : List Data) → listed (items_of ds) ≡ ds
 listed_items [] = refl

@@ -13,7 +13,7 @@ use Rattle.qn_block.specs.Combiners.{CombinerValue, fused_sectors}
 use Rattle.qn_block.specs.Tables.{fuse_legs, split_legs}
 use Rattle.qn_parts.specs.declared.fault.Fault.{Fault}
 use Rattle.qn_parts.specs.Faults.{fault, fault_if, first_of, ◌then◌}
-use Rattle.qn_parts.specs.Forms.{has, is_word}
+use Rattle.qn_json.specs.Forms.{has, is_word}
 use Rattle.qn_parts.specs.Tensors.{is_arrow, are_legs, arrow_of, legs_data, legs_of, leg_fault, width_fault}
 
 -- which of its two tables stands in the network

@@ -7,10 +7,10 @@ use Rattle.qn_charge.specs.declared.factor.Factor.{Factor}
 use Rattle.qn_net.specs.Members.{MemberValue, LabelledMember, IsMemberOf}
 use Rattle.qn_net.specs.Members.MemberValue.{own, fuse, split}
 use Rattle.qn_parts.specs.declared.fault.Fault.{Fault}
-use Rattle.qn_parts.specs.Forms.{has}
-use Rattle.qn_parts.specs.Tree.{items, member_of}
+use Rattle.qn_json.specs.Forms.{has, are_numbers}
+use Rattle.qn_json.specs.Tree.{items, member_of}
 use Rattle.qn_parts.specs.Sectors.{number_of}
-use Rattle.qn_parts.specs.Tensors.{are_numbers, is_tensor, tensor_of, tensor_fault}
+use Rattle.qn_parts.specs.Tensors.{is_tensor, tensor_of, tensor_fault}
 use Rattle.qn_doc.specs.Combiners.{is_combiner, is_split, combiner_of, combiner_fault}
 
 -- a combiner under the key `combine`, or else a tensor; and its labels

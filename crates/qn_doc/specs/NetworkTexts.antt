@@ -8,9 +8,9 @@ use Rattle.qn_block.specs.Combiners.{CombinerValue}
 use Rattle.qn_net.specs.Members.{MemberValue, LabelledMember, placed_member, IsHeld}
 use Rattle.qn_net.specs.Members.MemberValue.{own, fuse, split}
 use Rattle.qn_net.specs.NetworkValues.{NetworkValue}
-use Rattle.qn_parts.specs.Texts.{line_of}
-use Rattle.qn_parts.specs.Tree.{tree_of}
-use Rattle.qn_parts.specs.TensorTexts.{list_data, whole_data, factor_data, charge_data, arrow_word, leg_data, block_data}
+use Rattle.qn_json.specs.Texts.{line_of, list_data, whole_data}
+use Rattle.qn_json.specs.Tree.{tree_of}
+use Rattle.qn_parts.specs.TensorTexts.{factor_data, charge_data, arrow_word, leg_data, block_data}
 
 abbrev pub labels_data : List ℤ → Data
 labels_data ls = list_data (map whole_data ls)

@@ -12,10 +12,9 @@ use Rattle.qn_parts.specs.declared.fault.Fault.{Fault}
 use Rattle.qn_parts.specs.declared.fault.DocFault.{DocFault}
 use Rattle.qn_parts.specs.declared.fault.DocFault.TheVariants.{Bad, Memory}
 use Rattle.qn_parts.specs.Faults.{fault, fault_if, first_of, ◌then◌}
-use Rattle.qn_parts.specs.Forms.{has, is_list}
-use Rattle.qn_parts.specs.Tree.{tree_of, items, member_of}
+use Rattle.qn_json.specs.Forms.{has, is_list, are_numbers}
+use Rattle.qn_json.specs.Tree.{tree_of, items, member_of}
 use Rattle.qn_parts.specs.Groups.{is_group, group_fault}
-use Rattle.qn_parts.specs.Tensors.{are_numbers}
 use Rattle.qn_parts.specs.Documents.{has_version, group_data, factors_of, text_fault}
 use Rattle.qn_doc.specs.LabelFaults.{placed}
 use Rattle.qn_doc.specs.Members.{is_member, numbers_of, labelled_of, member_fault}

@@ -7,7 +7,7 @@ use Rattle.qn_block.specs.Blocked.{BlockedValue, IsBlocked, is_filled}
 use Rattle.qn_parts.specs.Tensors.{IsOfDocument, tensor_of}
 use Rattle.qn_parts.specs.TensorTexts.{tensor_data}
 use Rattle.qn_parts.specs.Documents.{factors_of, tensor_document_fault, text_fault, IsTensorIn, any_value}
-use Rattle.qn_parts.specs.Tree.{tree_of}
+use Rattle.qn_json.specs.Tree.{tree_of}
 use Rattle.qn_parts.specs.declared.documents.AnyTensor.{AnyTensor}
 
 -- the entries of a block have magnitudes within the limit

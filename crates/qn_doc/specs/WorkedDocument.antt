@@ -5,7 +5,7 @@ use Rattle.qn_value.specs.Examples.{fermions, mode, single}
 use Rattle.qn_block.specs.Blocked.{BlockedValue}
 use Rattle.qn_net.specs.Members.{LabelledMember}
 use Rattle.qn_net.specs.Members.MemberValue.{own}
-use Rattle.qn_parts.specs.Texts.{line_of}
+use Rattle.qn_json.specs.Texts.{line_of}
 use Rattle.qn_doc.specs.NetworkTexts.{network_data}
 
 abbrev pub worked_matrix : BlockedValue

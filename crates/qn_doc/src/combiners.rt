@@ -6,7 +6,7 @@ ghost use Rattle.qn_charge.specs.Charges.{zero_charge};
 ghost use Rattle.qn_index.specs.Legs.{IsLegOf};
 ghost use Rattle.qn_index.specs.Extents.{IsWithinLimits};
 ghost use Rattle.qn_parts.specs.Faults.{Reads, fault, fault_if, first_of};
-ghost use Rattle.qn_parts.specs.Forms.{has};
+ghost use Rattle.qn_json.specs.Forms.{has};
 ghost use Rattle.qn_parts.specs.Tensors.{legs_data, leg_fault, width_fault};
 ghost use Rattle.qn_doc.specs.Combiners.{is_mode, is_combiner, is_split, combiner_of, has_fused_leg, table_legs, table_fault, fused_fault, combiner_fault, IsTable};
 
@@ -110,7 +110,7 @@ fn combiner_of<const K: usize>(
 
 /// The combiner, or the first of its faults: F8; then leg by leg F9, F10, F11; then F11 of the fused
 /// leg; then F13 and F14 of its table.
-#[tactic(auto, using(qn_parts::proofs::Lists::views))]
+#[tactic(auto, using(qn_json::proofs::Lists::views))]
 pub(crate) fn combiner<const K: usize>(
     alloc: Global,
     v: &Value,

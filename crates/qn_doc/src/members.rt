@@ -6,10 +6,10 @@ ghost use Rattle.serde_json.specs.View.{view};
 ghost use Rattle.qn_net.specs.Members.{member_value};
 ghost use Rattle.qn_net.specs.Members.MemberValue.{own};
 ghost use Rattle.qn_parts.specs.Faults.{Reads, first_of};
-ghost use Rattle.qn_parts.specs.Forms.{has};
+ghost use Rattle.qn_json.specs.Forms.{has, are_numbers};
 ghost use Rattle.qn_parts.specs.Sectors.{number_of};
-ghost use Rattle.qn_parts.specs.Tree.{items, member_of};
-ghost use Rattle.qn_parts.specs.Tensors.{are_numbers, is_tensor, tensor_of, tensor_fault};
+ghost use Rattle.qn_json.specs.Tree.{items, member_of};
+ghost use Rattle.qn_parts.specs.Tensors.{is_tensor, tensor_of, tensor_fault};
 ghost use Rattle.qn_doc.specs.Combiners.{is_combiner, is_split, combiner_of, combiner_fault};
 ghost use Rattle.qn_doc.specs.Members.{is_member, numbers_of, table_of, member_value_of, labelled_of, member_fault, IsPlaced, IsInNetwork};
 
@@ -62,7 +62,7 @@ fn collected(alloc: Global, list: &[Value]) -> Result<Vec<i64>, AllocError>
 }
 
 /// The whole numbers of a list.
-#[tactic(auto, using(qn_parts::proofs::Lists::map_of_views))]
+#[tactic(auto, using(qn_json::proofs::Lists::map_of_views))]
 pub(crate) fn numbers(alloc: Global, list: &[Value]) -> Result<Vec<i64>, AllocError>
     ensures { IfOk result (λ made. made.items ≡ map number_of (map view list.now)) }
 {

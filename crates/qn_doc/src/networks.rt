@@ -5,9 +5,8 @@ ghost use Rattle.qn_charge.specs.Charges.{IsGroup};
 ghost use Rattle.std.specs.List.{All, list_all};
 ghost use Rattle.qn_net.specs.Refusals.{given};
 ghost use Rattle.qn_parts.specs.Faults.{Fails, Reads, fault};
-ghost use Rattle.qn_parts.specs.Forms.{has, is_list};
+ghost use Rattle.qn_json.specs.Forms.{has, is_list, are_numbers};
 ghost use Rattle.qn_parts.specs.Documents.{group_data, factors_of};
-ghost use Rattle.qn_parts.specs.Tensors.{are_numbers};
 ghost use Rattle.qn_doc.specs.LabelFaults.{label_fault, placed};
 ghost use Rattle.qn_doc.specs.Members.{is_member, member_fault, IsInNetwork};
 ghost use Rattle.qn_doc.specs.Networks.{has_order, is_network_document, members_data, members_of, order_of, head_fault, members_fault, parts_fault, IsCounted, IsLabelFault, IsNetworkOf, ReadsBy, any_network, bytes_fault, IsLabelFaultIn, IsNetworkIn};
@@ -41,7 +40,7 @@ fn has_order(v: &Value) -> bool
     }
 }
 
-#[tactic(auto, using(qn_parts::proofs::Lists::views))]
+#[tactic(auto, using(qn_json::proofs::Lists::views))]
 fn is_member_list(v: &Value, factors: usize) -> bool
     ensures { result ≡ is_list (is_member factors) (view v.now) }
 {
@@ -145,7 +144,7 @@ fn placed(fault: NetFault) -> DocFault
 }
 
 // The factors of the group, or the first of F3 to F7.
-#[tactic(auto, using(qn_parts::proofs::Lists::views))]
+#[tactic(auto, using(qn_json::proofs::Lists::views))]
 fn head(alloc: Global, v: &Value) -> Result<Vec<Factor>, DocFault>
     ensures { Reads result (head_fault (view v.now))
         (λ made. (made.items ≡ factors_of (view v.now)) × (length made.items ≤ 4) × IsGroup made.items × IsCounted (view v.now)) }

@@ -2,8 +2,8 @@
 ghost use Rattle.std.specs.Prelude.{◌≡◌, IfOk, OnOk, List, ℕ, ℤ, map, codes};
 ghost use Rattle.std.specs.List.{All};
 ghost use Rattle.qn_net.specs.Members.{IsHeld};
-ghost use Rattle.qn_parts.specs.Appended.{Appends};
-ghost use Rattle.qn_parts.specs.TensorTexts.{list_data};
+ghost use Rattle.qn_json.specs.Appended.{Appends};
+ghost use Rattle.qn_json.specs.Texts.{list_data};
 ghost use Rattle.qn_doc.specs.NetworkTexts.{labels_data, own_data, combine_data, table_data, labelled_data, member_data, network_data, IsTextOf};
 
 use json::Writer;

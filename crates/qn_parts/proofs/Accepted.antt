@@ -21,8 +21,8 @@ use Rattle.qn_parts.specs.declared.fault.Fault.{Fault}
 use Rattle.qn_parts.specs.Faults.{fault, fault_if, first_from, first_of, first_bad}
 use Rattle.qn_parts.specs.Groups.{is_cyclic, modulus, is_fermionic, has_bad_modulus, is_odd_fermion, modulus_fault, group_fault, factor_of}
 use Rattle.qn_parts.specs.Sectors.{is_part_out, first_out, has_charge_out, is_dim_out, dim_of, dims_fault, sectors_fault, sector_of, numbers, first_of_pair}
-use Rattle.qn_parts.specs.Tree.{items}
-use Rattle.qn_parts.proofs.Lists.{parts_none, or_false}
+use Rattle.qn_json.specs.Tree.{items}
+use Rattle.qn_json.proofs.Lists.{parts_none, or_false}
 use Rattle.qn_parts.proofs.Ranges.{part_in}
 
 passed : {A : Type 0} (b : Bool) (x : A) (r : Option A) → cond b (Some x) r ≡ None → (b ≡ false) × (r ≡ None)

@@ -8,8 +8,8 @@ use Rattle.qn_charge.specs.declared.factor.Factor.TheVariants.{U1, Zn}
 use Rattle.qn_index.specs.Legs.{SectorValue, LegValue}
 use Rattle.qn_value.specs.Tensors.{BlockValue}
 use Rattle.qn_block.specs.Blocked.{BlockedValue, is_filled}
-use Rattle.qn_parts.specs.Texts.{entry_data}
-use Rattle.qn_parts.specs.TensorTexts.{whole_data, count_data, factor_data, sector_data, leg_data, block_data, tensor_data}
+use Rattle.qn_json.specs.Texts.{entry_data, whole_data, count_data}
+use Rattle.qn_parts.specs.TensorTexts.{factor_data, sector_data, leg_data, block_data, tensor_data}
 
 -- a list is as deep as what it holds
 pub deep : {A : Type 0} (f : A → Data) (k : ℕ) → ((x : A) → depth (f x) ≤ k) → (xs : List A) → items_depth (items_of (map f xs)) ≤ k

@@ -8,7 +8,7 @@ use Rattle.std.specs.List.{list_any}
 use Rattle.serde_json.specs.Data.{Data}
 use Rattle.qn_parts.specs.declared.fault.Fault.{Fault}
 use Rattle.qn_parts.specs.Sectors.{dim_of, has_dim_out, has_charge_out, is_dim_out, dims_fault, sectors_fault}
-use Rattle.qn_parts.proofs.Lists.{or_false, parts_none}
+use Rattle.qn_json.proofs.Lists.{or_false, parts_none}
 
 stopped : (b : Bool) (f : Fault) (rest : Option Fault) → cond b (Some f) rest ≡ None → (b ≡ false) × (rest ≡ None)
 stopped true f rest e = cc

@@ -8,7 +8,7 @@ use Rattle.serde_json.specs.Data.{Data}
 use Rattle.qn_parts.specs.declared.fault.Fault.{Fault}
 use Rattle.qn_parts.specs.Faults.{fault, fault_if, first_of, first_bad}
 use Rattle.qn_parts.specs.Groups.{group_fault, modulus_fault, is_odd_fermion, factor_of}
-use Rattle.qn_parts.proofs.Lists.{parts_none}
+use Rattle.qn_json.proofs.Lists.{parts_none}
 
 not_bad : (b : Bool) (f : Fault) → cond b (Some f) None ≡ None → b ≡ false
 not_bad true f e = cc

@@ -1,14 +1,7 @@
-pub mod Lists
-pub mod Newline
-pub mod Trees
 pub mod Dims
 pub mod Ranges
-pub mod Decimals
 pub mod BlockWalk
 pub mod GroupSize
 pub mod Accepted
 pub mod Depths
 pub mod Noted
-pub mod Rereading
-pub mod Numerals
-pub mod Appending

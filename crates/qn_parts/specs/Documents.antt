@@ -6,8 +6,8 @@ use Rattle.serde_json.specs.Find.{get}
 use Rattle.qn_charge.specs.declared.factor.Factor.{Factor}
 use Rattle.qn_block.specs.Blocked.{BlockedValue}
 use Rattle.qn_parts.specs.Faults.{fault, fault_if, ◌then◌}
-use Rattle.qn_parts.specs.Forms.{has, is_between}
-use Rattle.qn_parts.specs.Tree.{tree_of, items, member_of}
+use Rattle.qn_json.specs.Forms.{has, is_between}
+use Rattle.qn_json.specs.Tree.{tree_of, items, member_of}
 use Rattle.qn_parts.specs.Groups.{is_group, group_fault, factor_of}
 use Rattle.qn_parts.specs.Tensors.{is_tensor, tensor_of, tensor_fault}
 use Rattle.qn_parts.specs.declared.fault.Fault.{Fault}

@@ -5,8 +5,8 @@ use Rattle.serde_json.specs.Find.{get}
 use Rattle.qn_charge.specs.declared.factor.Factor.{Factor}
 use Rattle.qn_charge.specs.declared.factor.Factor.TheVariants.{U1, Zn}
 use Rattle.qn_parts.specs.Faults.{fault, fault_if, first_of, first_bad, ◌then◌}
-use Rattle.qn_parts.specs.Forms.{has, is_list, is_whole, is_flag, is_word}
-use Rattle.qn_parts.specs.Tree.{whole, flag}
+use Rattle.qn_json.specs.Forms.{has, is_list, is_whole, is_flag, is_word}
+use Rattle.qn_json.specs.Tree.{whole, flag}
 use Rattle.qn_parts.specs.declared.fault.Fault.{Fault}
 
 -- a factor Z_n

@@ -1,11 +1,7 @@
 pub mod Faults
 pub mod Tree
-pub mod Forms
-pub mod Texts
 pub mod Groups
 pub mod Sectors
-pub mod Entries
 pub mod Tensors
 pub mod Documents
 pub mod TensorTexts
-pub mod Appended

@@ -7,8 +7,8 @@ use Rattle.qn_charge.specs.declared.factor.Factor.{Factor}
 use Rattle.qn_charge.specs.declared.factor.Factor.TheVariants.{U1, Zn}
 use Rattle.qn_index.specs.Legs.{SectorValue}
 use Rattle.qn_parts.specs.Faults.{fault, fault_if, first_bad, ◌then◌}
-use Rattle.qn_parts.specs.Forms.{is_list, is_pair, is_whole}
-use Rattle.qn_parts.specs.Tree.{list_at, items, whole_of}
+use Rattle.qn_json.specs.Forms.{is_list, is_pair, is_whole}
+use Rattle.qn_json.specs.Tree.{list_at, items, whole_of}
 use Rattle.qn_parts.specs.declared.fault.Fault.{Fault}
 
 -- n whole numbers

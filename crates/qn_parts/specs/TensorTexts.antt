@@ -1,6 +1,6 @@
 -- The text of a tensor: compact JSON, the keys of each object ascending. Blocks that are all zeros are left out.
 use Rattle.std.specs.Prelude.{ℕ, ℤ, List, map, filter, codes}
-use Rattle.serde_json.specs.Data.{Data, boolean, number, unsigned, string, array, object, item, no_items, member, no_members}
+use Rattle.serde_json.specs.Data.{Data, boolean, string, array, object, item, no_items, member, no_members}
 use Rattle.serde_json.specs.Find.{of_integer}
 use Rattle.serde_json.specs.View.{items_of}
 use Rattle.qn_charge.specs.declared.factor.Factor.{Factor}
@@ -10,19 +10,7 @@ use Rattle.qn_index.specs.declared.leg.Dir.TheVariants.{Out, In}
 use Rattle.qn_index.specs.Legs.{SectorValue, LegValue}
 use Rattle.qn_value.specs.Tensors.{BlockValue}
 use Rattle.qn_block.specs.Blocked.{BlockedValue, is_filled}
-use Rattle.qn_parts.specs.Texts.{entries_data, line_of}
-
--- a list
-abbrev pub list_data : List Data → Data
-list_data ds = array (items_of ds)
-
--- a whole number that is not negative
-abbrev pub count_data : ℕ → Data
-count_data n = number (unsigned n)
-
--- a whole number
-abbrev pub whole_data : ℤ → Data
-whole_data z = number (of_integer z)
+use Rattle.qn_json.specs.Texts.{list_data, count_data, whole_data, entries_data, line_of}
 
 -- {"fermion":bool,"kind":"u1"} or {"fermion":bool,"kind":"zn","n":n}
 abbrev pub factor_data : Factor → Data

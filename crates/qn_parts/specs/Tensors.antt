@@ -19,10 +19,10 @@ use Rattle.qn_block.specs.Blocked.{BlockedValue}
 use Rattle.qn_block.specs.declared.fault.BlockFault.{BlockFault}
 use Rattle.qn_block.specs.declared.fault.BlockFault.TheVariants.{TooManyLegs, TooManyTuples, TooManyEntries, Arity, BlockRange, OffFlux, NotAscending, DataLen, Memory}
 use Rattle.qn_parts.specs.Faults.{fault, fault_if, first_of, first_bad, ◌then◌}
-use Rattle.qn_parts.specs.Forms.{has, is_list, is_pair, is_whole, is_word}
-use Rattle.qn_parts.specs.Tree.{items, member_of}
+use Rattle.qn_json.specs.Forms.{has, are_numbers, is_list, is_pair, is_word}
+use Rattle.qn_json.specs.Tree.{items, member_of}
 use Rattle.qn_parts.specs.Sectors.{is_charge, is_sectors, number_of, charge_of, first_of_pair, second_of_pair, sector_of, sectors_fault, first_out}
-use Rattle.qn_parts.specs.Entries.{is_entry, entry_of}
+use Rattle.qn_json.specs.Entries.{are_entries, entry_of}
 use Rattle.qn_parts.specs.declared.fault.Fault.{Fault}
 
 -- ---- the form
@@ -38,14 +38,6 @@ is_leg n d = has is_arrow (get (codes "dir") d) && has (is_sectors n) (get (code
 -- a list of legs
 abbrev pub are_legs : ℕ → Data → Bool
 are_legs n d = is_list (is_leg n) d
-
--- a list of whole numbers
-abbrev pub are_numbers : Data → Bool
-are_numbers d = is_list is_whole d
-
--- a list of entries
-abbrev pub are_entries : Data → Bool
-are_entries d = is_list is_entry d
 
 -- a block: its tuple and its data
 unfoldable pub is_block : Data → Bool

@@ -5,15 +5,15 @@ ghost use Rattle.qn_gauss.specs.Gaussian.{zero_g};
 ghost use Rattle.serde_json.specs.View.{view};
 ghost use Rattle.qn_parts.specs.Faults.{Reads, Fails, fault, first_of, first_bad};
 ghost use Rattle.qn_parts.specs.Sectors.{number_of};
-ghost use Rattle.qn_parts.specs.Entries.{entry_of};
+ghost use Rattle.qn_json.specs.Entries.{entry_of};
 ghost use Rattle.qn_parts.specs.Tensors.{sector_number, tuple_of, entry_or_zero, block_of, placed, entry_fault, entries_data};
 
-use crate::entries::entry;
 use crate::sectors::{first_items, number, second_items};
 use crate::{DocFault, Fault};
 use qn_block::{Block, BlockFault};
 use qn_gauss::Gauss;
 use qn_index::Tuple;
+use qn_json::entry;
 use serde_json::Value;
 use std::alloc::{AllocError, Global};
 
@@ -84,7 +84,7 @@ fn at_entry(tensor: u32, part: u32, bad: Option<usize>) -> Option<Fault>
 }
 
 // The block, each entry 0 where F19 holds of it, and its F19.
-#[tactic(auto, using(crate::proofs::Lists::map_of_views, crate::proofs::Lists::views))]
+#[tactic(auto, using(qn_json::proofs::Lists::map_of_views, qn_json::proofs::Lists::views))]
 fn block(
     alloc: Global,
     v: &Value,

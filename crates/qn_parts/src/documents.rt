@@ -3,18 +3,19 @@ ghost use Rattle.serde_json.specs.Find.{get};
 ghost use Rattle.qn_charge.specs.Charges.{IsGroup};
 ghost use Rattle.serde_json.specs.View.{view};
 ghost use Rattle.qn_parts.specs.Faults.{Reads};
-ghost use Rattle.qn_parts.specs.Forms.{has};
+ghost use Rattle.qn_json.specs.Forms.{has};
 ghost use Rattle.qn_parts.specs.Groups.{is_group};
 ghost use Rattle.qn_parts.specs.Tensors.{tensor_fault, tensor_of};
 ghost use Rattle.qn_parts.specs.Documents.{has_version, group_data, is_tensor_document, tensor_document_fault, text_fault, any_value, IsTensorOf, IsTensorIn};
 
-use crate::forms::is_between;
 use crate::groups::{factors_of, group, is_group};
 use crate::tensors::{is_tensor, tensor};
-use crate::tree::{items_at, read_tree};
+use crate::tree::read_tree;
 use crate::{DocFault, Fault};
 use qn_block::BlockTensor;
 use qn_charge::Factor;
+use qn_json::forms::is_between;
+use qn_json::items_at;
 use serde_json::Value;
 use std::alloc::Global;
 
@@ -52,7 +53,7 @@ pub fn has_group(v: &Value) -> bool
 }
 
 /// The number of factors under `group`.
-#[tactic(auto, using(crate::proofs::Lists::views))]
+#[tactic(auto, using(qn_json::proofs::Lists::views))]
 pub fn factor_count(v: &Value) -> usize
     ensures { result ≡ length (group_data (view v.now)) }
 {

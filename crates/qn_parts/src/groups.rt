@@ -4,12 +4,12 @@ ghost use Rattle.qn_charge.specs.Charges.{IsGroup};
 ghost use Rattle.serde_json.specs.View.{view};
 ghost use Rattle.qn_parts.specs.Faults.{Reads, fault, first_of, first_bad};
 ghost use Rattle.qn_parts.specs.Groups.{is_factor, is_group, has_bad_modulus, is_odd_fermion, modulus_fault, group_fault, factor_of};
-ghost use Rattle.qn_parts.specs.Tree.{items};
+ghost use Rattle.qn_json.specs.Tree.{items};
 
-use crate::forms::{is_flag_at, is_whole_at, is_word_at};
-use crate::tree::{flag_at, items, list, whole_at};
 use crate::{DocFault, Fault};
 use qn_charge::{Factor, Group};
+use qn_json::forms::{is_flag_at, is_whole_at, is_word_at};
+use qn_json::{flag_at, items, list, whole_at};
 use serde_json::Value;
 use std::alloc::{AllocError, Global};
 
@@ -27,7 +27,7 @@ fn are_factors(list: &[Value]) -> bool
 }
 
 /// Whether the value has the form of a group: a list of factors. Takes no memory.
-#[tactic(auto, using(crate::proofs::Lists::tests_of_views))]
+#[tactic(auto, using(qn_json::proofs::Lists::tests_of_views))]
 pub fn is_group(v: &Value) -> bool
     ensures { result ≡ is_group (view v.now) }
 {
@@ -88,7 +88,7 @@ fn first_odd(list: &[Value]) -> Option<usize>
 }
 
 // F6 over all factors.
-#[tactic(auto, using(crate::proofs::Lists::position_of_views))]
+#[tactic(auto, using(qn_json::proofs::Lists::position_of_views))]
 fn check_odd(list: &[Value]) -> Result<(), DocFault>
     requires { length list.now ≤ 4 }
     ensures { Reads result (first_bad is_odd_fermion (λ k. fault 6 0 k 0) (map view list.now)) (λ _. ⊤) }

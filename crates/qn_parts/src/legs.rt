@@ -7,12 +7,12 @@ ghost use Rattle.qn_index.specs.Tuples.{IsFlux};
 ghost use Rattle.qn_parts.specs.Faults.{Reads, first_of};
 ghost use Rattle.qn_parts.specs.Tensors.{arrow_of, leg_of, flux_of, leg_fault, flux_fault};
 
-use crate::forms::is_word_at;
 use crate::sectors::{charge_in, sectors_of};
-use crate::tree::items_at;
 use crate::{DocFault, Fault};
 use qn_charge::{Charge, Group};
 use qn_index::{Dir, Leg};
+use qn_json::forms::is_word_at;
+use qn_json::items_at;
 use serde_json::Value;
 use std::alloc::Global;
 

@@ -1,11 +1,9 @@
-//! Documents: their tree, their first fault, the forms of their values, and the texts that answer.
+//! Documents: their first fault, the tensors that they mean, and the texts of tensors.
 #![tactic(auto)]
 
 mod blocks;
 mod documents;
-mod entries;
 mod fault;
-pub mod forms;
 mod groups;
 mod legs;
 pub mod parts;
@@ -13,11 +11,11 @@ mod sectors;
 mod tensors;
 mod tree;
 mod writing;
-mod written;
 
 pub use documents::{AnyTensor, read_tensor};
 pub use fault::{DocFault, Fault};
-pub use tree::{flag_at, items, items_at, list, read_tree, whole_at};
+pub use qn_json::{flag_at, forms, items, items_at, list, whole_at};
+pub use tree::read_tree;
 pub use writing::write_tensor;
 
 #[cfg(test)]

@@ -2,15 +2,15 @@ ghost use Rattle.std.specs.Prelude.{◌≡◌, ◌+◌, ◌<◌, ◌==◌, ◌||
 ghost use Rattle.std.specs.List.{list_all, list_any};
 ghost use Rattle.serde_json.specs.View.{view};
 ghost use Rattle.qn_parts.specs.Faults.{Reads, fault, first_bad, fault_if};
-ghost use Rattle.qn_parts.specs.Forms.{is_whole};
+ghost use Rattle.qn_json.specs.Forms.{is_whole};
 ghost use Rattle.qn_parts.specs.Sectors.{is_charge, is_sector, is_sectors, are_wholes, number_of, number_at, numbers, dim_of, sector_of, first_of_pair, first_out, second_of_pair, has_charge_out, has_dim_out, is_dim_out, dims_fault, sectors_fault};
-ghost use Rattle.qn_parts.specs.Tree.{items};
+ghost use Rattle.qn_json.specs.Tree.{items};
 
-use crate::forms::is_whole;
-use crate::tree::{items, list};
 use crate::{DocFault, Fault};
 use qn_charge::{Charge, Group};
 use qn_index::Sector;
+use qn_json::forms::is_whole;
+use qn_json::{items, list};
 use serde_json::Value;
 use std::alloc::{AllocError, Global};
 
@@ -21,7 +21,7 @@ fn all_whole(list: &[Value]) -> bool
 }
 
 /// Whether the value has the form of a charge or flux: one whole number for each factor.
-#[tactic(auto, using(crate::proofs::Lists::views))]
+#[tactic(auto, using(qn_json::proofs::Lists::views))]
 pub fn is_charge(v: &Value, factors: usize) -> bool
     ensures { result ≡ is_charge factors (view v.now) }
 {
@@ -48,7 +48,7 @@ fn are_sectors(list: &[Value], factors: usize) -> bool
 
 /// Whether the value has the form of a list of sectors, with this many numbers in each charge. Takes
 /// no memory.
-#[tactic(auto, using(crate::proofs::Lists::views))]
+#[tactic(auto, using(qn_json::proofs::Lists::views))]
 pub fn is_sectors(v: &Value, factors: usize) -> bool
     ensures { result ≡ is_sectors factors (view v.now) }
 {
@@ -65,7 +65,7 @@ pub fn number(v: &Value) -> i64
     v.as_i64().unwrap_or(0)
 }
 
-#[tactic(auto, using(crate::proofs::Lists::places_of_views))]
+#[tactic(auto, using(qn_json::proofs::Lists::places_of_views))]
 fn number_at(list: &[Value], i: usize) -> i64
     ensures { result ≡ number_at (map view list.now) i }
 {
@@ -213,7 +213,7 @@ fn check_count(list: &[Value], tensor: u32, part: u32) -> Result<(), DocFault>
 }
 
 // F9 over all sectors, then F10, then F11.
-#[tactic(auto, using(crate::proofs::Lists::length_of_views))]
+#[tactic(auto, using(qn_json::proofs::Lists::length_of_views))]
 fn check_sectors<const K: usize>(
     list: &[Value],
     group: &Group<K>,

@@ -7,22 +7,20 @@ ghost use Rattle.qn_charge.specs.Charges.{IsWithin};
 ghost use Rattle.qn_index.specs.Legs.{IsLegOf};
 ghost use Rattle.qn_index.specs.Tuples.{IsFlux};
 ghost use Rattle.qn_parts.specs.Faults.{Reads, Fails, fault, first_of, first_bad};
-ghost use Rattle.qn_parts.specs.Forms.{has, is_whole};
+ghost use Rattle.qn_json.specs.Forms.{has, is_whole, are_numbers};
 ghost use Rattle.qn_parts.specs.Sectors.{is_charge, is_sectors, number_of, numbers};
-ghost use Rattle.qn_parts.specs.Entries.{is_entry, entry_of};
-ghost use Rattle.qn_parts.specs.Tree.{items, member_of};
-ghost use Rattle.qn_parts.specs.Tensors.{is_arrow, is_leg, are_legs, are_numbers, are_entries, is_block, are_blocks, is_tensor, arrow_of, leg_of, flux_of, sector_number, tuple_of, entry_or_zero, block_of, tensor_of, leg_fault, flux_fault, made_fault, parts_fault, legs_data, placed, entry_fault, tensor_fault, IsOfDocument};
+ghost use Rattle.qn_json.specs.Entries.{is_entry, entry_of, are_entries};
+ghost use Rattle.qn_json.specs.Tree.{items, member_of};
+ghost use Rattle.qn_parts.specs.Tensors.{is_arrow, is_leg, are_legs, is_block, are_blocks, is_tensor, arrow_of, leg_of, flux_of, sector_number, tuple_of, entry_or_zero, block_of, tensor_of, leg_fault, flux_fault, made_fault, parts_fault, legs_data, placed, entry_fault, tensor_fault, IsOfDocument};
 
 use crate::blocks::{blocks, place};
-use crate::entries::is_entry;
-use crate::forms::is_whole;
 use crate::legs::{flux, legs};
 use crate::sectors::{is_charge, is_sectors};
-use crate::tree::{items_at, list};
 use crate::{DocFault, Fault};
 use qn_block::{Block, BlockTensor};
 use qn_charge::{Charge, Group};
 use qn_index::Leg;
+use qn_json::{are_entries, are_numbers, items_at, list};
 use serde_json::Value;
 use std::alloc::Global;
 
@@ -61,46 +59,12 @@ fn all_legs(list: &[Value], factors: usize) -> bool
     list.iter().all(|v| is_leg(v, factors))
 }
 
-#[tactic(auto, using(crate::proofs::Lists::views))]
+#[tactic(auto, using(qn_json::proofs::Lists::views))]
 fn are_legs(v: &Value, factors: usize) -> bool
     ensures { result ≡ are_legs factors (view v.now) }
 {
     match list(v) {
         Some(list) => all_legs(list, factors),
-        None => false,
-    }
-}
-
-fn all_numbers(list: &[Value]) -> bool
-    ensures { result ≡ list_all (λ v. is_whole (view v)) list.now }
-{
-    list.iter().all(|v| is_whole(v))
-}
-
-/// Whether the value is a list of whole numbers.
-#[tactic(auto, using(crate::proofs::Lists::views))]
-pub fn are_numbers(v: &Value) -> bool
-    ensures { result ≡ are_numbers (view v.now) }
-{
-    match list(v) {
-        Some(list) => all_numbers(list),
-        None => false,
-    }
-}
-
-fn all_entries(list: &[Value]) -> bool
-    ensures { result ≡ list_all (λ v. is_entry (view v)) list.now }
-{
-    list.iter().all(|v| is_entry(v))
-}
-
-/// Whether the value is a list of entries.
-#[tactic(auto, using(crate::proofs::Lists::views))]
-pub fn are_entries(v: &Value) -> bool
-    ensures { result ≡ are_entries (view v.now) }
-{
-    match list(v) {
-        Some(list) => all_entries(list),
         None => false,
     }
 }
@@ -121,7 +85,7 @@ fn all_blocks(list: &[Value]) -> bool
     list.iter().all(|v| is_block(v))
 }
 
-#[tactic(auto, using(crate::proofs::Lists::views))]
+#[tactic(auto, using(qn_json::proofs::Lists::views))]
 fn are_blocks(v: &Value) -> bool
     ensures { result ≡ are_blocks (view v.now) }
 {
@@ -215,7 +179,7 @@ fn tensor_of<const K: usize>(
 
 /// The tensor, or the first of its faults: F8; then leg by leg F9, F10, F11; then F12 to F19, each
 /// over all blocks before the next code. The tensor of a fault is `number`.
-#[tactic(auto, using(crate::proofs::Lists::views))]
+#[tactic(auto, using(qn_json::proofs::Lists::views))]
 pub fn tensor<const K: usize>(
     alloc: Global,
     v: &Value,

@@ -4,16 +4,17 @@ ghost use Rattle.std.specs.List.{list_any};
 ghost use Rattle.serde_json.specs.Data.{string};
 ghost use Rattle.qn_charge.specs.declared.factor.Factor.TheVariants.{U1, Zn};
 ghost use Rattle.qn_block.specs.Blocked.{is_filled, is_zero};
-ghost use Rattle.qn_parts.specs.Appended.{Appends};
-ghost use Rattle.qn_parts.specs.Tree.{tree_of};
-ghost use Rattle.qn_parts.specs.TensorTexts.{list_data, count_data, whole_data, factor_data, charge_data, sector_data, arrow_word, leg_data, block_data, tensor_data, tensor_text};
+ghost use Rattle.qn_json.specs.Appended.{Appends};
+ghost use Rattle.qn_json.specs.Tree.{tree_of};
+ghost use Rattle.qn_json.specs.Texts.{list_data, count_data, whole_data};
+ghost use Rattle.qn_parts.specs.TensorTexts.{factor_data, charge_data, sector_data, arrow_word, leg_data, block_data, tensor_data, tensor_text};
 
-use crate::written::{finished, write_count, write_entries, write_whole};
 use json::Writer;
 use qn_block::{Block, BlockTensor};
 use qn_charge::{Charge, Factor, Group};
 use qn_gauss::Gauss;
 use qn_index::{Dir, Leg, Sector};
+use qn_json::{finished, write_count, write_entries, write_whole};
 use std::alloc::{AllocError, Global};
 
 fn write_unitary(out: &mut Writer, fermion: bool) -> Result<(), AllocError>

@@ -16,8 +16,8 @@ use Rattle.qn_parts.specs.declared.fault.DocFault.{DocFault}
 use Rattle.qn_parts.specs.declared.fault.DocFault.TheVariants.{Bad, Memory}
 use Rattle.qn_parts.specs.Faults.{Fails, first_from, fault}
 use Rattle.qn_parts.specs.Tensors.{entry_or_zero}
-use Rattle.qn_parts.specs.Tree.{items}
-use Rattle.qn_parts.proofs.Lists.{or_false}
+use Rattle.qn_json.specs.Tree.{items}
+use Rattle.qn_json.proofs.Lists.{or_false}
 use Rattle.qn_sumdoc.specs.Operators.{first_other_row, rows_fault, entries_data}
 
 -- a walk over two lists, one after the other

@@ -11,7 +11,7 @@ use Rattle.qn_index.specs.Refusals.{IsFirstLegFault}
 use Rattle.qn_parts.specs.declared.fault.Fault.{Fault}
 use Rattle.qn_parts.specs.Faults.{fault, fault_if, first_bad}
 use Rattle.qn_parts.specs.Sectors.{has_charge_out, is_dim_out, dim_of, dims_fault, sectors_fault, sector_of}
-use Rattle.qn_parts.proofs.Lists.{parts_none, or_false}
+use Rattle.qn_json.proofs.Lists.{parts_none, or_false}
 use Rattle.qn_parts.proofs.Accepted.{leg_accepted}
 
 passed : {A : Type 0} (b : Bool) (x : A) (r : Option A) → cond b (Some x) r ≡ None → (b ≡ false) × (r ≡ None)

@@ -16,7 +16,7 @@ use Rattle.qn_mps.specs.Chains.{ChainValue}
 use Rattle.qn_mps.specs.Refusals.{IsChainFault, IsFaultless}
 use Rattle.qn_parts.specs.declared.fault.Fault.{Fault}
 use Rattle.qn_parts.specs.Faults.{fault, fault_if, first_of, ◌then◌}
-use Rattle.qn_parts.specs.Tree.{items, member_of}
+use Rattle.qn_json.specs.Tree.{items, member_of}
 use Rattle.qn_parts.specs.Tensors.{tensor_of, tensor_fault}
 use Rattle.qn_parts.specs.Documents.{factors_of}
 use Rattle.qn_sumdoc.specs.Sites.{sites_of}

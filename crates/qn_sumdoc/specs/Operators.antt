@@ -14,11 +14,11 @@ use Rattle.qn_sites.specs.Sites.{GivenOp, identity_name}
 use Rattle.qn_sites.specs.Refusals.{IsClean}
 use Rattle.qn_parts.specs.declared.fault.Fault.{Fault}
 use Rattle.qn_parts.specs.Faults.{fault, fault_if, first_of, ◌then◌}
-use Rattle.qn_parts.specs.Forms.{has, is_list}
-use Rattle.qn_parts.specs.Tree.{items, member_of}
+use Rattle.qn_json.specs.Forms.{has, is_list}
+use Rattle.qn_json.specs.Tree.{items, member_of}
 use Rattle.qn_parts.specs.Sectors.{is_charge, charge_of, first_out}
-use Rattle.qn_parts.specs.Entries.{entry_of}
-use Rattle.qn_parts.specs.Tensors.{are_entries, entry_or_zero}
+use Rattle.qn_json.specs.Entries.{entry_of, are_entries}
+use Rattle.qn_parts.specs.Tensors.{entry_or_zero}
 use Rattle.qn_sumdoc.specs.Objects.{Named}
 
 -- ---- the form

@@ -17,8 +17,8 @@ use Rattle.qn_sites.specs.Sites.{GivenOp, SiteValue, AreAscending, site_with}
 use Rattle.qn_opsum.specs.Sums.{no_site}
 use Rattle.qn_parts.specs.declared.fault.Fault.{Fault}
 use Rattle.qn_parts.specs.Faults.{fault, fault_if, first_of, ◌then◌}
-use Rattle.qn_parts.specs.Forms.{has, is_word}
-use Rattle.qn_parts.specs.Tree.{items, member_of}
+use Rattle.qn_json.specs.Forms.{has, is_word}
+use Rattle.qn_json.specs.Tree.{items, member_of}
 use Rattle.qn_parts.specs.Sectors.{is_sectors, sector_of, sectors_fault}
 use Rattle.qn_parts.specs.Tensors.{sectors_data}
 use Rattle.qn_parts.specs.Documents.{factors_of}

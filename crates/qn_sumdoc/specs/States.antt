@@ -7,8 +7,8 @@ use Rattle.qn_mps.specs.Chains.{ChainValue}
 use Rattle.qn_opsum.specs.Sums.{SumValue}
 use Rattle.qn_parts.specs.declared.fault.Fault.{Fault}
 use Rattle.qn_parts.specs.Faults.{fault, fault_if, ◌then◌}
-use Rattle.qn_parts.specs.Forms.{has, is_list}
-use Rattle.qn_parts.specs.Tree.{tree_of}
+use Rattle.qn_json.specs.Forms.{has, is_list}
+use Rattle.qn_json.specs.Tree.{tree_of}
 use Rattle.qn_parts.specs.Groups.{is_group, group_fault}
 use Rattle.qn_parts.specs.Tensors.{is_tensor}
 use Rattle.qn_parts.specs.Documents.{has_version, group_data, text_fault}

@@ -7,8 +7,8 @@ use Rattle.qn_opsum.specs.Sums.{SumValue, charge_of, term_at}
 use Rattle.qn_opsum.specs.Refusals.{IsSum}
 use Rattle.qn_parts.specs.declared.fault.Fault.{Fault}
 use Rattle.qn_parts.specs.Faults.{fault, fault_if, ◌then◌}
-use Rattle.qn_parts.specs.Forms.{has, is_list}
-use Rattle.qn_parts.specs.Tree.{tree_of}
+use Rattle.qn_json.specs.Forms.{has, is_list}
+use Rattle.qn_json.specs.Tree.{tree_of}
 use Rattle.qn_parts.specs.Groups.{is_group, group_fault}
 use Rattle.qn_parts.specs.Documents.{has_version, group_data, factors_of, text_fault}
 use Rattle.qn_sumdoc.specs.Sites.{is_site, sites_of, sites_fault}

@@ -8,10 +8,10 @@ use Rattle.qn_opsum.specs.Sums.{TermValue}
 use Rattle.qn_opsum.specs.Refusals.{IsSumFault}
 use Rattle.qn_parts.specs.declared.fault.Fault.{Fault}
 use Rattle.qn_parts.specs.Faults.{fault, fault_if, first_bad, ◌then◌}
-use Rattle.qn_parts.specs.Forms.{has, is_list, is_pair, is_whole}
-use Rattle.qn_parts.specs.Tree.{items, member_of}
+use Rattle.qn_json.specs.Forms.{has, is_list, is_pair, is_whole}
+use Rattle.qn_json.specs.Tree.{items, member_of}
 use Rattle.qn_parts.specs.Sectors.{number_of, first_of_pair, second_of_pair}
-use Rattle.qn_parts.specs.Entries.{is_entry, entry_of}
+use Rattle.qn_json.specs.Entries.{is_entry, entry_of}
 use Rattle.qn_parts.specs.Tensors.{entry_or_zero}
 use Rattle.qn_parts.specs.Documents.{factors_of}
 use Rattle.qn_sumdoc.specs.Objects.{is_text, text_of}

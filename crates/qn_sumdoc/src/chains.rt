@@ -4,7 +4,7 @@ ghost use Rattle.serde_json.specs.Find.{get};
 ghost use Rattle.serde_json.specs.View.{view};
 ghost use Rattle.qn_index.specs.declared.leg.Dir.TheVariants.{Out};
 ghost use Rattle.qn_parts.specs.Faults.{Fails, Reads, fault, first_of};
-ghost use Rattle.qn_parts.specs.Forms.{has, is_list};
+ghost use Rattle.qn_json.specs.Forms.{has, is_list};
 ghost use Rattle.qn_parts.specs.Documents.{factors_of};
 ghost use Rattle.qn_parts.specs.Tensors.{is_tensor, tensor_fault, tensor_of};
 ghost use Rattle.qn_doc.specs.Networks.{ReadsBy};
@@ -27,7 +27,7 @@ fn all_tensors(list: &[Value], factors: usize) -> bool
     list.iter().all(|v| is_tensor(v, factors))
 }
 
-#[tactic(auto, using(qn_parts::proofs::Lists::views))]
+#[tactic(auto, using(qn_json::proofs::Lists::views))]
 fn are_tensors(v: &Value, factors: usize) -> bool
     ensures { result ≡ is_list (is_tensor factors) (view v.now) }
 {

@@ -1,8 +1,8 @@
 ghost use Rattle.std.specs.Prelude.{◌≡◌, option_map, map, IfOk, string_bytes};
 ghost use Rattle.serde_json.specs.Find.{get};
 ghost use Rattle.serde_json.specs.View.{view};
-ghost use Rattle.qn_parts.specs.Forms.{has};
-ghost use Rattle.qn_parts.specs.Tree.{member_of};
+ghost use Rattle.qn_json.specs.Forms.{has};
+ghost use Rattle.qn_json.specs.Tree.{member_of};
 ghost use Rattle.qn_sumdoc.specs.Objects.{is_text, members_at, named, text_of};
 
 use serde_json::{Map, Value};

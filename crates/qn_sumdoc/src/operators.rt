@@ -6,9 +6,10 @@ ghost use Rattle.qn_index.specs.Legs.{total};
 ghost use Rattle.qn_sites.specs.Operators.{IsSiteLeg};
 ghost use Rattle.qn_sites.specs.Refusals.{IsClean};
 ghost use Rattle.qn_parts.specs.Faults.{Reads, Fails, fault, first_from, first_of};
-ghost use Rattle.qn_parts.specs.Forms.{has, is_list};
+ghost use Rattle.qn_json.specs.Forms.{has, is_list};
 ghost use Rattle.qn_parts.specs.Sectors.{is_charge};
-ghost use Rattle.qn_parts.specs.Tensors.{are_entries, entry_or_zero};
+ghost use Rattle.qn_json.specs.Entries.{are_entries};
+ghost use Rattle.qn_parts.specs.Tensors.{entry_or_zero};
 ghost use Rattle.qn_sumdoc.specs.Objects.{named};
 ghost use Rattle.qn_sumdoc.specs.Operators.{IsOperatorOf, is_operator, rows_data, entries_data, rows_fault, entry_fault, table_fault, charge_fault, operator_fault};
 
@@ -36,7 +37,7 @@ fn all_rows(list: &[Value]) -> bool
     list.iter().all(|v| are_entries(v))
 }
 
-#[tactic(auto, using(qn_parts::proofs::Lists::views))]
+#[tactic(auto, using(qn_json::proofs::Lists::views))]
 fn are_rows(v: &Value) -> bool
     ensures { result ≡ is_list are_entries (view v.now) }
 {
@@ -64,7 +65,7 @@ pub(crate) fn is_operator(v: &Value, factors: usize) -> bool
 }
 
 // F18: the first row that hasn't `dim` entries, where there should be `dim` rows.
-#[tactic(auto, using(qn_parts::proofs::Lists::views))]
+#[tactic(auto, using(qn_json::proofs::Lists::views))]
 fn check_rows(rows: &[Value], dim: u32, site: u32, op: u32) -> Result<(), DocFault>
     requires { dim ≤ 64 }
     ensures { Reads result (rows_fault dim site op (map view rows.now)) (λ _. ⊤) }

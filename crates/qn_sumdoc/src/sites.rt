@@ -7,7 +7,7 @@ ghost use Rattle.qn_sites.specs.Kinds.{kind_site};
 ghost use Rattle.qn_sites.specs.Sites.{SiteValue};
 ghost use Rattle.qn_opsum.specs.Sums.{no_site};
 ghost use Rattle.qn_parts.specs.Faults.{Reads, first_of};
-ghost use Rattle.qn_parts.specs.Forms.{has, is_list};
+ghost use Rattle.qn_json.specs.Forms.{has, is_list};
 ghost use Rattle.qn_parts.specs.Documents.{factors_of};
 ghost use Rattle.qn_sumdoc.specs.Sites.{AreSitesOf, is_own, is_site, kind_fault, kind_of, site_fault, site_of, sites_data, sites_fault, sites_of};
 
@@ -39,7 +39,7 @@ fn all_sites(list: &[Value], factors: usize) -> bool
     list.iter().all(|v| is_site(v, factors))
 }
 
-#[tactic(auto, using(qn_parts::proofs::Lists::views))]
+#[tactic(auto, using(qn_json::proofs::Lists::views))]
 fn are_sites(v: &Value, factors: usize) -> bool
     ensures { result ≡ is_list (is_site factors) (view v.now) }
 {

@@ -3,11 +3,11 @@ ghost use Rattle.std.specs.List.{list_all, position_from};
 ghost use Rattle.serde_json.specs.Find.{get};
 ghost use Rattle.serde_json.specs.View.{view};
 ghost use Rattle.qn_parts.specs.Faults.{Fails, Reads, fault};
-ghost use Rattle.qn_parts.specs.Forms.{has, is_list};
-ghost use Rattle.qn_parts.specs.Entries.{is_entry};
+ghost use Rattle.qn_json.specs.Forms.{has, is_list};
+ghost use Rattle.qn_json.specs.Entries.{is_entry};
 ghost use Rattle.qn_parts.specs.Sectors.{number_of, first_of_pair, second_of_pair};
 ghost use Rattle.qn_parts.specs.Tensors.{entry_or_zero};
-ghost use Rattle.qn_parts.specs.Tree.{items};
+ghost use Rattle.qn_json.specs.Tree.{items};
 ghost use Rattle.qn_sumdoc.specs.Objects.{text_of};
 ghost use Rattle.qn_sumdoc.specs.Terms.{coef_data, coefs_fault, factor_of, has_bad_coef, is_factor, is_term, placed, site_number, term_of, terms_data};
 
@@ -36,7 +36,7 @@ fn all_factors(list: &[Value]) -> bool
     list.iter().all(|v| is_factor(v))
 }
 
-#[tactic(auto, using(qn_parts::proofs::Lists::views))]
+#[tactic(auto, using(qn_json::proofs::Lists::views))]
 fn are_factors(v: &Value) -> bool
     ensures { result ≡ is_list is_factor (view v.now) }
 {
@@ -77,7 +77,7 @@ fn all_terms(list: &[Value]) -> bool
     list.iter().all(|v| is_term(v))
 }
 
-#[tactic(auto, using(qn_parts::proofs::Lists::views))]
+#[tactic(auto, using(qn_json::proofs::Lists::views))]
 fn are_terms(v: &Value) -> bool
     ensures { result ≡ is_list is_term (view v.now) }
 {
@@ -147,7 +147,7 @@ fn factors(alloc: Global, list: &[Value]) -> Result<Vec<(u32, Name)>, AllocError
 }
 
 // The coefficient, and 0 where F19 holds of it.
-#[tactic(auto, unfolding(qn_gauss::specs::Gaussian::zero_g, qn_parts::specs::Entries::entry_of))]
+#[tactic(auto, unfolding(qn_gauss::specs::Gaussian::zero_g, qn_json::specs::Entries::entry_of))]
 fn coef(v: &Value) -> Gauss
     ensures { result ≡ entry_or_zero (coef_data (view v.now)) }
 {
@@ -184,7 +184,7 @@ pub(crate) fn terms(alloc: Global, list: &[Value]) -> Result<Vec<Term>, AllocErr
     Ok(made)
 }
 
-#[tactic(auto, unfolding(qn_parts::specs::Entries::entry_of))]
+#[tactic(auto, unfolding(qn_json::specs::Entries::entry_of))]
 fn has_bad_coef(v: &Value) -> bool
     ensures { result ≡ has_bad_coef (view v.now) }
 {
@@ -202,7 +202,7 @@ fn first_bad_coef(list: &[Value]) -> Option<usize>
 }
 
 /// F29, then F19 of all coefficients.
-#[tactic(auto, using(qn_parts::proofs::Lists::views))]
+#[tactic(auto, using(qn_json::proofs::Lists::views))]
 pub(crate) fn check_coefs(v: &Value) -> Result<(), DocFault>
     ensures { Reads result (coefs_fault (view v.now)) (λ _. ⊤) }
 {

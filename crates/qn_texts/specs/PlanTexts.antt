@@ -5,8 +5,7 @@ use Rattle.serde_json.specs.Data.{Data, string, object, member, no_members}
 use Rattle.qn_net.specs.Steps.{Kind}
 use Rattle.qn_net.specs.Steps.Kind.{pair_step, trace_step, fuse_step}
 use Rattle.qn_plan.specs.Planned.{StepValue}
-use Rattle.qn_parts.specs.Texts.{line_of}
-use Rattle.qn_parts.specs.TensorTexts.{list_data, count_data, whole_data}
+use Rattle.qn_json.specs.Texts.{line_of, list_data, count_data, whole_data}
 
 abbrev pub kind_word : Kind → List ℕ
 kind_word pair_step = codes "pair"

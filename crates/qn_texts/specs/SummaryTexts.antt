@@ -2,8 +2,7 @@
 use Rattle.std.specs.Prelude.{ℕ, List, codes}
 use Rattle.serde_json.specs.Data.{Data, object, member, no_members}
 use Rattle.qn_gauss.specs.Gaussian.{Gaussian}
-use Rattle.qn_parts.specs.Texts.{entry_data, line_of}
-use Rattle.qn_parts.specs.TensorTexts.{count_data}
+use Rattle.qn_json.specs.Texts.{entry_data, line_of, count_data}
 
 -- how many sites there are, the value of their network, and how many steps were taken at which cost
 pub record SummaryValue : Type 0 where

@@ -3,8 +3,8 @@ ghost use Rattle.std.specs.List.{All, sum_by};
 ghost use Rattle.serde_json.specs.Data.{string};
 ghost use Rattle.qn_net.specs.Steps.{Kind};
 ghost use Rattle.qn_plan.specs.Planned.{kind_value};
-ghost use Rattle.qn_parts.specs.Appended.{Appends};
-ghost use Rattle.qn_parts.specs.TensorTexts.{list_data, count_data};
+ghost use Rattle.qn_json.specs.Appended.{Appends};
+ghost use Rattle.qn_json.specs.Texts.{list_data, count_data};
 ghost use Rattle.qn_texts.specs.PlanTexts.{kind_word, numbers_of, step_data, plan_data, plan_text};
 
 use json::Writer;

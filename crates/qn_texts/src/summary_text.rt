@@ -1,5 +1,5 @@
 ghost use Rattle.std.specs.Prelude.{◌≡◌, IfOk, OnOk};
-ghost use Rattle.qn_parts.specs.Appended.{Appends};
+ghost use Rattle.qn_json.specs.Appended.{Appends};
 ghost use Rattle.qn_texts.specs.SummaryTexts.{SummaryValue, summary_data, summary_text};
 
 use json::Writer;

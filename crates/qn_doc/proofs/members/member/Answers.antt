@@ -2,7 +2,7 @@ use Rattle.std.proofs.Common.{◌≡◌, map, codes, ap, sym, subst, ◌∙◌}
 use Rattle.serde_json.specs.View.{view}
 use Rattle.qn_net.specs.Members.{member_value, IsMemberOf}
 use Rattle.qn_parts.specs.Sectors.{number_of}
-use Rattle.qn_parts.specs.Tree.{member_of}
+use Rattle.qn_json.specs.Tree.{member_of}
 use Rattle.qn_doc.specs.Members.{numbers_of, member_value_of, labelled_of, IsInNetwork}
 use Rattle.qn_doc.proofs.Placing.{same_labelled}
 use Rattle.qn_doc.proofs.members.member.Goals as goal

@@ -1,5 +1,5 @@
 use Rattle.std.proofs.Common.{drop}
-use Rattle.qn_parts.proofs.Appending.{AppendsUpTo}
+use Rattle.qn_json.proofs.Appending.{AppendsUpTo}
 use Rattle.qn_doc.specs.NetworkTexts.{member_data}
 use Rattle.qn_doc.proofs.writing.write_members.Given as goal
 

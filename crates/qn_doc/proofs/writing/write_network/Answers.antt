@@ -1,6 +1,6 @@
 use Rattle.std.proofs.Common.{◌≡◌, ap, subst, ◌∙◌}
-use Rattle.qn_parts.specs.Appended.{IsAlone}
-use Rattle.qn_parts.proofs.Rereading.{alone}
+use Rattle.qn_json.specs.Appended.{IsAlone}
+use Rattle.qn_json.proofs.Rereading.{alone}
 use Rattle.qn_doc.specs.NetworkTexts.{network_data}
 use Rattle.qn_doc.proofs.TextForms.{shallow}
 use Rattle.qn_doc.proofs.writing.write_network.Goals as goal

@@ -2,10 +2,11 @@ use Rattle.std.proofs.Common.{codes, map, Some, refl, ap}
 use Rattle.std.specs.Prelude.{option_map}
 use Rattle.std.proofs.lemmas.Result.{on_ok_weaker}
 use Rattle.serde_json.specs.Data.{object, member, no_members, put}
-use Rattle.qn_parts.specs.Appended.{Appends, IsRead}
-use Rattle.qn_parts.specs.TensorTexts.{list_data, factor_data}
+use Rattle.qn_json.specs.Appended.{Appends, IsRead}
+use Rattle.qn_json.specs.Texts.{list_data}
+use Rattle.qn_parts.specs.TensorTexts.{factor_data}
 use Rattle.qn_doc.specs.NetworkTexts.{labels_data, member_data}
-use Rattle.qn_parts.proofs.Appending.{opens, adds, closes, and_read}
+use Rattle.qn_json.proofs.Appending.{opens, adds, closes, and_read}
 use Rattle.qn_doc.proofs.writing.write_parts.Goals as goal
 
 pub returns : goal.returns

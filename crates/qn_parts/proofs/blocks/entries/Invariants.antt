@@ -3,7 +3,7 @@ use Rattle.std.specs.Prelude.{IfSome, is_none}
 use Rattle.std.specs.List.{position_from}
 use Rattle.std.specs.Option.{option_or}
 use Rattle.serde_json.specs.View.{view}
-use Rattle.qn_parts.specs.Entries.{entry_of}
+use Rattle.qn_json.specs.Entries.{entry_of}
 use Rattle.qn_parts.specs.Tensors.{entry_or_zero}
 use Rattle.qn_parts.proofs.blocks.entries.Given as goal
 

@@ -1,7 +1,7 @@
 use Rattle.std.proofs.Common.{◌≡◌, None, true≢false, sym, refl}
 use Rattle.serde_json.specs.View.{view}
-use Rattle.qn_parts.specs.Tree.{tree_of}
-use Rattle.qn_parts.proofs.Trees.{tree_found, tree_none}
+use Rattle.qn_json.specs.Tree.{tree_of}
+use Rattle.qn_json.proofs.Trees.{tree_found, tree_none}
 use Rattle.qn_parts.proofs.tree.read_tree.Goals as goal
 
 pub returns-in-Ok : goal.returns-in-Ok

@@ -1,7 +1,7 @@
 use Rattle.std.proofs.Common.{drop, filter}
 use Rattle.qn_block.specs.Blocked.{is_filled}
 use Rattle.qn_parts.specs.TensorTexts.{block_data}
-use Rattle.qn_parts.proofs.Appending.{AppendsUpTo}
+use Rattle.qn_json.proofs.Appending.{AppendsUpTo}
 use Rattle.qn_parts.proofs.writing.write_blocks.Given as goal
 
 abbrev pub invariant-loop-block : goal.invariant-loop-block

@@ -1,6 +1,6 @@
 use Rattle.std.proofs.Common.{drop}
-use Rattle.qn_parts.specs.TensorTexts.{whole_data}
-use Rattle.qn_parts.proofs.Appending.{AppendsUpTo}
+use Rattle.qn_json.specs.Texts.{whole_data}
+use Rattle.qn_json.proofs.Appending.{AppendsUpTo}
 use Rattle.qn_parts.proofs.writing.write_charge.Given as goal
 
 abbrev pub invariant-loop-i : goal.invariant-loop-i

@@ -1,6 +1,6 @@
 use Rattle.std.proofs.Common.{drop}
 use Rattle.qn_parts.specs.TensorTexts.{leg_data}
-use Rattle.qn_parts.proofs.Appending.{AppendsUpTo}
+use Rattle.qn_json.proofs.Appending.{AppendsUpTo}
 use Rattle.qn_parts.proofs.writing.write_legs.Given as goal
 
 abbrev pub invariant-loop-leg : goal.invariant-loop-leg

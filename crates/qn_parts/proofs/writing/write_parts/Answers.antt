@@ -2,9 +2,10 @@ use Rattle.std.proofs.Common.{codes, map, filter, refl, subst}
 use Rattle.std.proofs.lemmas.Result.{on_ok_weaker}
 use Rattle.serde_json.specs.Data.{object, member, no_members}
 use Rattle.qn_block.specs.Blocked.{is_filled}
-use Rattle.qn_parts.specs.Appended.{Appends}
-use Rattle.qn_parts.specs.TensorTexts.{list_data, block_data, charge_data, factor_data, leg_data}
-use Rattle.qn_parts.proofs.Appending.{opens, adds, closes, four_read}
+use Rattle.qn_json.specs.Appended.{Appends}
+use Rattle.qn_json.specs.Texts.{list_data}
+use Rattle.qn_parts.specs.TensorTexts.{block_data, charge_data, factor_data, leg_data}
+use Rattle.qn_json.proofs.Appending.{opens, adds, closes, four_read}
 use Rattle.qn_parts.proofs.writing.write_parts.Goals as goal
 
 pub returns : goal.returns

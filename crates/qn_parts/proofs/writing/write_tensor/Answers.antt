@@ -1,7 +1,7 @@
 use Rattle.std.proofs.Common.{◌∙◌}
 use Rattle.qn_parts.specs.TensorTexts.{tensor_data}
 use Rattle.qn_parts.proofs.Depths.{shallow}
-use Rattle.qn_parts.proofs.Rereading.{alone}
+use Rattle.qn_json.proofs.Rereading.{alone}
 use Rattle.qn_parts.proofs.writing.write_tensor.Goals as goal
 
 pub returns-clause-text : goal.returns-clause-text

@@ -1,6 +1,6 @@
 use Rattle.std.proofs.Common.{drop}
-use Rattle.qn_parts.specs.TensorTexts.{count_data}
-use Rattle.qn_parts.proofs.Appending.{AppendsUpTo}
+use Rattle.qn_json.specs.Texts.{count_data}
+use Rattle.qn_json.proofs.Appending.{AppendsUpTo}
 use Rattle.qn_parts.proofs.writing.write_tuple.Given as goal
 
 abbrev pub invariant-loop-number : goal.invariant-loop-number

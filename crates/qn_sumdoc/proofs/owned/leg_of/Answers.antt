@@ -4,7 +4,7 @@ use Rattle.qn_index.specs.declared.leg.Dir.TheVariants.{Out}
 use Rattle.qn_index.specs.Legs.{LegValue, SectorValue, total}
 use Rattle.qn_index.specs.Refusals.{IsFirstLegFault}
 use Rattle.qn_parts.specs.Sectors.{sector_of}
-use Rattle.qn_parts.specs.Tree.{items}
+use Rattle.qn_json.specs.Tree.{items}
 use Rattle.qn_sumdoc.proofs.SiteLegs.{site_leg_accepted, small}
 use Rattle.qn_sumdoc.proofs.owned.leg_of.Goals as goal
 

@@ -1,9 +1,9 @@
 use Rattle.std.proofs.Common.{codes, map, refl, rules}
 use Rattle.std.proofs.lemmas.Result.{on_ok_weaker}
 use Rattle.serde_json.specs.Data.{string, object, member, no_members}
-use Rattle.qn_parts.specs.Appended.{Appends}
-use Rattle.qn_parts.specs.TensorTexts.{list_data, count_data, whole_data}
-use Rattle.qn_parts.proofs.Appending.{opens, adds, closes, four_read}
+use Rattle.qn_json.specs.Appended.{Appends}
+use Rattle.qn_json.specs.Texts.{list_data, count_data, whole_data}
+use Rattle.qn_json.proofs.Appending.{opens, adds, closes, four_read}
 use Rattle.qn_texts.specs.PlanTexts.{kind_word, numbers_of}
 use Rattle.qn_texts.proofs.plan_text.write_step.Goals as goal
 

@@ -1,5 +1,5 @@
 use Rattle.std.proofs.Common.{drop}
-use Rattle.qn_parts.proofs.Appending.{AppendsUpTo}
+use Rattle.qn_json.proofs.Appending.{AppendsUpTo}
 use Rattle.qn_texts.specs.PlanTexts.{step_data}
 use Rattle.qn_texts.proofs.plan_text.write_steps.Given as goal
 

@@ -1,10 +1,9 @@
 use Rattle.std.proofs.Common.{codes, refl, rules}
 use Rattle.std.proofs.lemmas.Result.{on_ok_weaker}
 use Rattle.serde_json.specs.Data.{object, member, no_members}
-use Rattle.qn_parts.specs.Appended.{Appends}
-use Rattle.qn_parts.specs.Texts.{entry_data}
-use Rattle.qn_parts.specs.TensorTexts.{count_data}
-use Rattle.qn_parts.proofs.Appending.{opens, adds, closes, four_read}
+use Rattle.qn_json.specs.Appended.{Appends}
+use Rattle.qn_json.specs.Texts.{entry_data, count_data}
+use Rattle.qn_json.proofs.Appending.{opens, adds, closes, four_read}
 use Rattle.qn_texts.proofs.summary_text.write_parts.Goals as goal
 
 pub returns : goal.returns

@@ -1,5 +1,5 @@
 use Rattle.std.proofs.Common.{◌∙◌}
-use Rattle.qn_parts.proofs.Rereading.{alone}
+use Rattle.qn_json.proofs.Rereading.{alone}
 use Rattle.qn_texts.specs.SummaryTexts.{summary_data}
 use Rattle.qn_texts.proofs.summary_text.write_summary.Goals as goal
 
