@@ -1,14 +1,16 @@
 -- A call on a source that tells its bytes.
-use Rattle.std.proofs.Common.{◌≡◌, ◌⊎◌, inl, inr, ℕ, ◌<◌, List, [], ◌++◌, length, Some, None, refl, sym, ap, subst, ◌∙◌, arith, append-nil, length-append, Bool, true, false}
+use Rattle.std.proofs.Common.{◌≡◌, ◌⊎◌, inl, inr, ℕ, ◌<◌, ◌≤◌, List, [], ◌++◌, length, Some, None, refl, sym, ap, subst, ◌∙◌, arith, append-nil, length-append, Bool, true, false}
 use Rattle.std.proofs.lemmas.Bool.{false≢true}
 use Rattle.std.specs.Prelude.{Option, IfSome, Result, Ok, if◌then◌else◌}
 use Rattle.std.proofs.KnownBytes.{Consumes-nil, Keeps-refl}
 use Rattle.std.specs.Io.KnownBytes.{Consumes, Appends, IsAtEnd}
 use Rattle.qn_parts.specs.declared.fault.Fault.{Fault}
 use Rattle.qn_words.specs.declared.words.Job.{Job}
+use Rattle.qn_words.specs.declared.words.Job.TheVariants.{Mpo}
 use Rattle.qn_cli.specs.declared.status.Status.{Status}
 use Rattle.qn_cli.specs.declared.status.Status.TheVariants.{Done, Usage, Malformed, Passed, ReadFault, WriteFault, Memory}
 use Rattle.qn_cli.specs.Outcomes.{Outcome, refused, passed, answered, most_bytes}
+use Rattle.qn_cli.specs.Operators.{HasElementsIn}
 use Rattle.qn_cli.specs.Jobs.{ComesTo, Multiplies, document, is_read}
 use Rattle.qn_cli.specs.Answers.{EndsOn, IsStatusOf, ReadsToEnd, Refuses, Tells}
 use Rattle.qn_mps.specs.SameNetworks.{SameOverlapLaw, SameExpectLaw}
@@ -126,8 +128,10 @@ module _ (law : SameOverlapLaw × SameExpectLaw) (o : Result Job ℕ) (left_old 
 
 -- where the document is read to its end
 pub read_whole : (job : Job) (left_old left held_old held_new : Option (List ℕ)) (before now : ℕ) (s : Status) (bytes : List ℕ) → Consumes left_old left bytes → IsAtEnd left
-    → Tells job bytes held_old held_new s → Multiplies job bytes before now → EndsOn job left_old left held_old held_new before now s bytes
-read_whole job left_old left held_old held_new before now s bytes came end tells cost = record { came = came; end = λ is. by s tells; tells = tells; cost = cost }
+    → length bytes ≤ most_bytes → Tells job bytes held_old held_new s → Multiplies job bytes before now → (s ≡ Done → job ≡ Mpo → HasElementsIn bytes)
+    → EndsOn job left_old left held_old held_new before now s bytes
+read_whole job left_old left held_old held_new before now s bytes came end within tells cost elements =
+    record { came = came; within = omega (arith, within); end = λ is. by s tells; tells = tells; cost = cost; elements = elements }
   where
     by : (s : Status) → Tells job bytes held_old held_new s → ReadsToEnd s bytes left
     by Done t = end
@@ -142,7 +146,14 @@ read_whole job left_old left held_old held_new before now s bytes came end tells
 pub unread : (job : Job) (left held_old held_new : Option (List ℕ)) (before now : ℕ) (s : Status) → is_read job ≡ false
     → Tells job [] held_old held_new s → Multiplies job [] before now → EndsOn job left left held_old held_new before now s []
 unread job left held_old held_new before now s is tells cost =
-    record { came = Consumes-nil left; end = λ yes. absurd (false≢true (sym is ∙ yes)); tells = tells; cost = cost }
+    record {
+      came = Consumes-nil left;
+      within = omega arith;
+      end = λ yes. absurd (false≢true (sym is ∙ yes));
+      tells = tells;
+      cost = cost;
+      elements = λ done mpo. absurd (false≢true (sym is ∙ ap is_read mpo));
+    }
 
 -- a status in the place of a text: nothing was written
 pub refusal_told : (job : Job) (bytes : List ℕ) (held : Option (List ℕ)) (s : Status) → Refuses job bytes s → Tells job bytes held held s

@@ -18,8 +18,10 @@ pub mod OperatorTexts
 pub mod Outcomes
 pub mod OverlapNetworks
 pub mod Pieces
+pub mod Prefixes
 pub mod SameSteps
 pub mod Scalars
 pub mod Skeletons
 pub mod Summaries
 pub mod Workloads
+pub mod WrittenValues

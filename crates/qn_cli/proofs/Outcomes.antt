@@ -102,7 +102,7 @@ one_plan bytes (answered text) (answered other) a b = ap answered (a.3 ∙ (ap (
 -- ---- operator sums
 
 -- the operator sum that the bytes say is one
-one_sum : (bytes : List ℕ) (v w : SumValue) → IsSumIn bytes v → IsSumIn bytes w → v ≡ w
+pub one_sum : (bytes : List ℕ) (v w : SumValue) → IsSumIn bytes v → IsSumIn bytes w → v ≡ w
 one_sum bytes v w p q = both (tree_of bytes) p.sum q.sum (λ d a b. sum_told d v a ∙ sym (sum_told d w b))
 
 no_sum_bytes_fault : (bytes : List ℕ) (v : SumValue) (f : Fault) → IsSumIn bytes v → IsSumFaultIn bytes f → ⊥

@@ -1,9 +1,11 @@
 -- What a status says of the bytes that came, of the source and of the sink.
-use Rattle.std.specs.Prelude.{◌≡◌, ◌⊎◌, ℕ, ◌+◌, ◌≤◌, ◌<◌, List, [], ◌∷◌, length, take, Bool, true, Option, None}
+use Rattle.std.specs.Prelude.{◌≡◌, ◌⊎◌, ℕ, ◌+◌, ◌≤◌, ◌<◌, List, [], ◌∷◌, length, take, Bool, true, Option, None, Ok, Err}
 use Rattle.std.specs.Io.KnownBytes.{Keeps, Consumes, Appends, IsAtEnd}
 use Rattle.qn_net.specs.NetworkValues.{NetworkValue}
 use Rattle.qn_parts.specs.declared.fault.Fault.{Fault}
 use Rattle.qn_words.specs.declared.words.Job.{Job}
+use Rattle.qn_words.specs.declared.words.Job.TheVariants.{Mpo}
+use Rattle.qn_words.specs.Words.{job_of}
 use Rattle.qn_cli.specs.declared.status.Status.{Status}
 use Rattle.qn_cli.specs.declared.status.Status.TheVariants.{Done, Usage, Malformed, Passed, ReadFault, WriteFault, Memory}
 use Rattle.qn_charge.specs.Firsts.{HasNone}
@@ -12,7 +14,7 @@ use Rattle.qn_opsum.specs.Sums.{SumValue}
 use Rattle.qn_auto.specs.SumAutomaton.{IsWideAt, made_of}
 use Rattle.qn_cli.specs.Outcomes.{Outcome, refused, passed, answered, most_bytes}
 use Rattle.qn_cli.specs.Networks.{IsBytesFault, IsWideStep, IsPassingPlace}
-use Rattle.qn_cli.specs.Operators.{IsSumFaultIn, IsWideSite, IsPassingSite}
+use Rattle.qn_cli.specs.Operators.{HasElementsIn, IsSumFaultIn, IsWideSite, IsPassingSite}
 use Rattle.qn_cli.specs.Brakets.{BraketValue, IsWideOverlap, IsPassingOverlap, IsOverlapCost, IsNarrowExpect, IsWideExpect, IsPassingExpect, IsExpectCost}
 use Rattle.qn_cli.specs.States.{IsStatesFaultIn}
 use Rattle.qn_cli.specs.Jobs.{is_read, ComesTo, Multiplies}
@@ -128,6 +130,15 @@ ReadsToEnd Memory bytes left = Unit {0}
 -- how a call ends where these bytes came, which are none where the document is not read: from the source's bytes and the sink's before and after, and the steps before and after
 pub record EndsOn (job : Job) (left_old left_new held_old held_new : Option (List ℕ)) (steps_old steps_new : ℕ) (result : Status) (bytes : List ℕ) : Type 0 where
   pub came : Consumes left_old left_new bytes
+  -- at most one byte more than a document may have is taken
+  pub within : length bytes ≤ most_bytes + 1
   pub end : is_read job ≡ true → ReadsToEnd result bytes left_new
   pub tells : Tells job bytes held_old held_new result
   pub cost : Multiplies job bytes steps_old steps_new
+  -- the network that is written has the matrix elements of the operator sum
+  pub elements : result ≡ Done → job ≡ Mpo → HasElementsIn bytes
+
+-- how a call ends on these words: with the first that doesn't fit, or as their job and the bytes that came ask
+pub record Ends (words : List (List ℕ)) (left_old left_new held_old held_new : Option (List ℕ)) (steps_old steps_new : ℕ) (result : Status) : Type 0 where
+  pub usage : (place : ℕ) → job_of words ≡ Err place → result ≡ Usage place
+  pub bytes : (job : Job) → job_of words ≡ Ok job → (bytes : List ℕ) × EndsOn job left_old left_new held_old held_new steps_old steps_new result bytes

@@ -9,7 +9,9 @@ use Rattle.qn_value.specs.Magnitudes.{all_blocks}
 use Rattle.qn_block.specs.Blocked.{BlockedValue, is_filled}
 use Rattle.qn_opsum.specs.Sums.{SumValue}
 use Rattle.qn_auto.specs.SumAutomaton.{legs_at, flux_at, entry_at_site, IsWideAt, PassesAt}
-use Rattle.qn_braket.specs.Chains.{operator_members, operator_network}
+use Rattle.qn_index.specs.Places.{IsValues}
+use Rattle.qn_paths.specs.Sums.{site_legs, sum_element}
+use Rattle.qn_braket.specs.Chains.{element, operator_members, operator_network}
 use Rattle.qn_parts.specs.declared.fault.Fault.{Fault}
 use Rattle.qn_parts.specs.Faults.{fault}
 use Rattle.qn_parts.specs.Texts.{line_of}
@@ -52,6 +54,14 @@ site_tensor v j = record {
 -- the automaton as a chain of tensors
 abbrev pub automaton : SumValue → List BlockedValue
 automaton v = map (site_tensor v) (positions (length v.sites))
+
+-- the network of the automaton has the matrix elements of the sum of the operator strings
+abbrev pub HasElements : SumValue → Type 0
+HasElements v = (u s : List ℕ) → IsValues (site_legs v) u → IsValues (site_legs v) s → element v.group (automaton v) u s ≡ sum_element v u s
+
+-- the operator sum that the bytes say has an automaton with its matrix elements
+abbrev pub HasElementsIn : List ℕ → Type 0
+HasElementsIn bytes = (v : SumValue) → IsSumIn bytes v → HasElements v
 
 -- the text of the automaton's network
 abbrev pub operator_text : SumValue → List ℕ

@@ -1,9 +1,11 @@
 //! One command, from words and bytes to a text and a status.
-ghost use Rattle.std.specs.Prelude.{◌≡◌, ◌≢◌, ℕ, ◌+◌, ◌<◌, ◌≤◌, ◌⊎◌, List, Option, Some, None, Ok, Err, true, false, IfOk, IfErr, IfSome, map, string_bytes, length};
+ghost use Rattle.std.specs.Prelude.{OnOk, ◌≡◌, ◌≢◌, ℕ, ◌+◌, ◌<◌, ◌≤◌, ◌⊎◌, List, Option, Some, None, Ok, Err, true, false, IfOk, IfErr, IfSome, map, string_bytes, length};
 ghost use Rattle.std.specs.Io.KnownBytes.{Keeps, Consumes, Appends, IsAtEnd};
 ghost use Rattle.qn_outside.specs.Faults.{Rose};
 ghost use Rattle.qn_parts.specs.Faults.{fault};
 ghost use Rattle.qn_words.specs.declared.words.Job.{Job};
+ghost use Rattle.qn_words.specs.declared.words.Job.TheVariants.{Mpo};
+ghost use Rattle.qn_cli.specs.Operators.{HasElementsIn};
 ghost use Rattle.qn_words.specs.Words.{HasWorkers, job_of};
 ghost use Rattle.qn_cli.specs.Outcomes.{Outcome, answered};
 ghost use Rattle.qn_cli.specs.Jobs.{ComesTo, Multiplies, document, is_read};
@@ -39,6 +41,7 @@ fn text_for<G: Gate, L: Ledger, R: Threads + Sync>(
 ) -> Result<Vec<u8>, Status>
     requires workers { HasWorkers job }
     ensures text { IfOk result (λ text. ComesTo job bytes.now (answered text.items)) }
+    ensures elements { OnOk result (job ≡ Mpo → HasElementsIn bytes.now) }
     ensures status { IfErr result (Refuses job bytes.now) }
     ensures cost { Multiplies job bytes.now steps.old steps.new }
 {
@@ -74,8 +77,10 @@ fn answer<O: Sink, G: Gate, L: Ledger, R: Threads + Sync>(
     requires workers { HasWorkers job }
     ensures tells { Tells job bytes.now (O.held out.old) (O.held out.new) result }
     ensures cost { Multiplies job bytes.now steps.old steps.new }
+    ensures elements { result ≡ Status.Done → job ≡ Mpo → HasElementsIn bytes.now }
     ensures no_read { result ≢ Status.ReadFault }
     ensures write_fault { result ≡ Status.WriteFault → Rose (O.faults out.old) (O.faults out.new) }
+    ensures untouched { result ≢ Status.Done → result ≢ Status.WriteFault → out.new ≡ out.old }
 {
     let text = match text_for(rt, alloc, job, gate, bytes, steps) {
         Ok(text) => text,
@@ -88,7 +93,7 @@ fn answer<O: Sink, G: Gate, L: Ledger, R: Threads + Sync>(
 }
 
 /// Reads the document, answers and writes.
-#[tactic(auto, using(crate::proofs::Costs::nothing, crate::proofs::Completeness::read_whole))]
+#[tactic(auto, using(crate::proofs::Costs::nothing, crate::proofs::Completeness::read_whole, crate::proofs::Prefixes::nothing_known, crate::proofs::Prefixes::whole_known))]
 fn attempt<S: Source, O: Sink, G: Gate, L: Ledger, R: Threads + Sync>(
     rt: &R,
     alloc: Global,
@@ -104,6 +109,9 @@ fn attempt<S: Source, O: Sink, G: Gate, L: Ledger, R: Threads + Sync>(
         (O.held out.old) (O.held out.new) steps.old steps.new result bytes }
     ensures read_fault { result ≡ Status.ReadFault → Rose (S.faults source.old) (S.faults source.new) }
     ensures write_fault { result ≡ Status.WriteFault → Rose (O.faults out.old) (O.faults out.new) }
+    ensures untouched { result ≢ Status.Done → result ≢ Status.WriteFault → out.new ≡ out.old }
+    ensures unticked { result ≡ Status.ReadFault → steps.new ≡ steps.old }
+    ensures ticks { IfSome (S.left source.old) (λ all. Multiplies job all steps.old steps.new) }
 {
     let bytes = match read_all(alloc, source) {
         Ok(bytes) => bytes,
@@ -122,7 +130,7 @@ fn is_read(job: Job) -> bool
 }
 
 /// Does what the words ask for.
-#[tactic(auto, using(crate::proofs::Completeness::unread))]
+#[tactic(auto, using(crate::proofs::Completeness::unread, crate::proofs::Prefixes::read_known, crate::proofs::Prefixes::unread_known))]
 fn obey<S: Source, O: Sink, G: Gate, L: Ledger, R: Threads + Sync>(
     rt: &R,
     alloc: Global,
@@ -140,6 +148,10 @@ fn obey<S: Source, O: Sink, G: Gate, L: Ledger, R: Threads + Sync>(
         (O.held out.old) (O.held out.new) steps.old steps.new result bytes }
     ensures read_fault { result ≡ Status.ReadFault → Rose (S.faults source.old) (S.faults source.new) }
     ensures write_fault { result ≡ Status.WriteFault → Rose (O.faults out.old) (O.faults out.new) }
+    ensures untouched { result ≢ Status.Done → result ≢ Status.WriteFault → out.new ≡ out.old }
+    ensures unticked { result ≡ Status.ReadFault → steps.new ≡ steps.old }
+    ensures ticks { (job : Job) → job_of (map string_bytes words.now) ≡ Ok job
+        → IfSome (document job (S.left source.old)) (λ all. Multiplies job all steps.old steps.new) }
 {
     match read_words(words) {
         Ok(job) if is_read(job) => attempt(rt, alloc, job, source, out, gate, steps),
@@ -190,6 +202,16 @@ pub fn run<S: Source, O: Sink, E: Sink, G: Gate, L: Ledger, R: Threads + Sync>(
     // A fault of the source or of the sink is told only where its count rose.
     ensures read_fault { result ≡ Status.ReadFault → Rose (S.faults source.old) (S.faults source.new) }
     ensures write_fault { result ≡ Status.WriteFault → Rose (O.faults out.old) (O.faults out.new) }
+
+    // Nothing was written but with Done and WriteFault, whether the sink tells its bytes or not.
+    ensures untouched { result ≢ Status.Done → result ≢ Status.WriteFault → out.new ≡ out.old }
+
+    // Where the document is known, at most its cost is multiplied, and nothing where it has a fault.
+    ensures ticks { (job : Job) → job_of (map string_bytes words.now) ≡ Ok job
+        → IfSome (document job (S.left source.old)) (λ all. Multiplies job all steps.old steps.new) }
+
+    // A read fault multiplies nothing.
+    ensures unticked { result ≡ Status.ReadFault → steps.new ≡ steps.old }
 
     // The line of the status, or a part from its front and the count of `err` rose; with Done nothing.
     ensures line { TellsLine (E.held err.old) (E.held err.new) (E.faults err.old) (E.faults err.new) (line_of result) }

@@ -5,6 +5,7 @@ mod brakets;
 mod command;
 mod expectations;
 mod generated;
+pub mod laws;
 mod networks;
 mod operators;
 mod status;

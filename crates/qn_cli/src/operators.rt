@@ -8,7 +8,7 @@ ghost use Rattle.qn_sumdoc.specs.Sums.{any_sum};
 ghost use Rattle.qn_parts.specs.Faults.{fault};
 ghost use Rattle.qn_words.specs.declared.words.Job.TheVariants.{Mpo};
 ghost use Rattle.qn_cli.specs.Outcomes.{answered};
-ghost use Rattle.qn_cli.specs.Operators.{IsSumIn, IsBuildable, operator_text, Writes};
+ghost use Rattle.qn_cli.specs.Operators.{IsSumIn, IsBuildable, HasElements, HasElementsIn, operator_text, Writes};
 ghost use Rattle.qn_cli.specs.Jobs.{Multiplies};
 ghost use Rattle.qn_cli.specs.Answers.{IsSumRefusal, IsBuildRefusal, IsPassedAt, IsWithinBuild, Refuses};
 
@@ -20,6 +20,7 @@ use qn_mpo::{BuildFault, build, operator_rules};
 use qn_mps::Chain;
 use qn_opsum::OpSum;
 use qn_parts::{DocFault, Fault};
+use qn_paths::laws::sum_law;
 use qn_sumdoc::{AnySum, read_sum};
 use std::alloc::{AllocError, Global};
 use std::sync::ledger::Ledger;
@@ -94,17 +95,20 @@ fn chain_text<const K: usize>(alloc: Global, chain: &Chain<K>) -> Result<Vec<u8>
 }
 
 /// The text of the automaton of an operator sum, or the status in its place.
-#[tactic(auto, using(crate::proofs::OperatorTexts::built_text))]
+#[tactic(auto, using(crate::proofs::OperatorTexts::built_text, crate::proofs::WrittenValues::elements_told))]
 fn sum_text<const K: usize, L: Ledger>(
     alloc: Global,
     sum: &OpSum<K>,
     steps: &mut Steps<L>,
 ) -> Result<Vec<u8>, Status>
     ensures text { IfOk result (λ text. IsBuildable sum.now × (text.items ≡ operator_text sum.now)) }
+    ensures elements { OnOk result (HasElements sum.now) }
     ensures status { IfErr result (IsBuildRefusal sum.now) }
     ensures cost { IsWithinBuild sum.now steps.old steps.new }
 {
     let chain = automaton(alloc, sum, steps)?;
+    sum_law();
+    sum.known();
     match chain_text(alloc, &chain) {
         Ok(text) => Ok(text),
         Err(_) => Err(Status::Memory),
@@ -117,6 +121,7 @@ fn any_sum_text<L: Ledger>(
     steps: &mut Steps<L>,
 ) -> Result<Vec<u8>, Status>
     ensures text { IfOk result (λ text. IsBuildable (any_sum any.now) × (text.items ≡ operator_text (any_sum any.now))) }
+    ensures elements { OnOk result (HasElements (any_sum any.now)) }
     ensures status { IfErr result (IsBuildRefusal (any_sum any.now)) }
     ensures cost { IsWithinBuild (any_sum any.now) steps.old steps.new }
 {
@@ -130,13 +135,14 @@ fn any_sum_text<L: Ledger>(
 }
 
 /// The text of the automaton of the operator sum that the bytes say, or the status in its place.
-#[tactic(auto, using(crate::proofs::Costs::multiplied_in_build, crate::proofs::Costs::nothing))]
+#[tactic(auto, using(crate::proofs::Costs::multiplied_in_build, crate::proofs::Costs::nothing, crate::proofs::WrittenValues::elements_of_bytes))]
 pub(crate) fn mpo<L: Ledger>(
     alloc: Global,
     bytes: &[u8],
     steps: &mut Steps<L>,
 ) -> Result<Vec<u8>, Status>
     ensures text { IfOk result (λ text. Writes bytes.now (answered text.items)) }
+    ensures elements { OnOk result (HasElementsIn bytes.now) }
     ensures status { IfErr result (Refuses Mpo bytes.now) }
     ensures cost { Multiplies Mpo bytes.now steps.old steps.new }
 {

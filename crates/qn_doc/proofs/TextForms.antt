@@ -1,33 +1,17 @@
--- The text of a network has no float, and nests to a fixed depth.
-use Rattle.std.proofs.Common.{◌≡◌, ℕ, ◌≤◌, ℤ, List, map, filter, false, refl, arith}
+-- The text of a network nests to a fixed depth.
+use Rattle.std.proofs.Common.{ℕ, ◌≤◌, ℤ, List, map, filter, arith}
 use Rattle.std.specs.Prelude.{codes}
 use Rattle.serde_json.specs.Data.{depth, items_depth}
 use Rattle.serde_json.specs.View.{items_of}
 use Rattle.serde_json.specs.Read.{max_depth}
-use Rattle.serde_json.specs.Written.{has_float, items_have_float}
 use Rattle.qn_charge.specs.declared.factor.Factor.{Factor}
 use Rattle.qn_block.specs.Blocked.{is_filled}
 use Rattle.qn_block.specs.Combiners.{CombinerValue}
 use Rattle.qn_net.specs.Members.{MemberValue, LabelledMember}
 use Rattle.qn_net.specs.Members.MemberValue.{own, fuse, split}
 use Rattle.qn_parts.specs.TensorTexts.{whole_data, factor_data, leg_data, block_data}
-use Rattle.qn_parts.proofs.Floats as floats
 use Rattle.qn_parts.proofs.Depths as depths
 use Rattle.qn_doc.specs.NetworkTexts.{table_data, labelled_data, member_data, network_data}
-
-labels : (ls : List ℤ) → items_have_float (items_of (map whole_data ls)) ≡ false
-labels ls = floats.none whole_data floats.whole ls
-
-table : (c : CombinerValue) (mode : List ℕ) (ls : List ℤ) → has_float (table_data c mode ls) ≡ false
-table c mode ls = rw (floats.none leg_data floats.leg c.legs, labels ls) refl
-
-placed : (m : MemberValue) (ls : List ℤ) → has_float (labelled_data m ls) ≡ false
-placed (own t) ls = rw (floats.none block_data floats.block (filter is_filled t.blocks), floats.charge t.flux, labels ls, floats.none leg_data floats.leg t.legs) refl
-placed (fuse c) ls = table c (codes "fuse") ls
-placed (split c) ls = table c (codes "split") ls
-
-pub no_float : (fs : List Factor) (order : List ℤ) (ms : List LabelledMember) → has_float (network_data fs order ms) ≡ false
-no_float fs order ms = rw (floats.none factor_data floats.factor fs, labels order, floats.none member_data (λ m. placed m.member m.labels) ms) refl
 
 flat : (ls : List ℤ) → items_depth (items_of (map whole_data ls)) ≤ 0
 flat ls = depths.deep whole_data 0 (λ z. omega arith) ls

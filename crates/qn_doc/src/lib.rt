@@ -11,8 +11,8 @@ mod writing;
 
 pub use networks::{AnyNet, read_network};
 pub use qn_parts::{
-    AnyTensor, DocFault, Fault, entries_value, entry_value, flag_at, forms, items, items_at, line,
-    list, parts, read_tensor, read_tree, whole_at, write_tensor,
+    AnyTensor, DocFault, Fault, flag_at, forms, items, items_at, list, parts, read_tensor,
+    read_tree, whole_at, write_tensor,
 };
 pub use writing::write_network;
 

@@ -1,97 +1,111 @@
-ghost use Rattle.std.specs.Prelude.{◌≡◌, IfOk, List, ℕ, ℤ, map, codes};
+//! Networks, written a token at a time.
+ghost use Rattle.std.specs.Prelude.{◌≡◌, IfOk, OnOk, List, ℕ, ℤ, map, codes};
 ghost use Rattle.std.specs.List.{All};
-ghost use Rattle.serde_json.specs.View.{view};
 ghost use Rattle.qn_net.specs.Members.{IsHeld};
+ghost use Rattle.qn_parts.specs.Appended.{Appends};
 ghost use Rattle.qn_parts.specs.TensorTexts.{list_data};
 ghost use Rattle.qn_doc.specs.NetworkTexts.{labels_data, own_data, combine_data, table_data, labelled_data, member_data, network_data, IsTextOf};
 
+use json::Writer;
 use qn_block::{BlockTensor, Combiner};
 use qn_charge::Group;
 use qn_net::{Member, NetTensor, Network};
-use qn_parts::line;
 use qn_parts::parts::{
-    arrow_value, blocks_value, charge_value, group_value, legs_value, numbers_value,
+    finished, write_arrow, write_blocks, write_charge, write_group, write_legs, write_numbers,
 };
-use serde_json::{Value, json};
 use std::alloc::{AllocError, Global};
 
-fn own_value<const K: usize>(
-    alloc: Global,
+fn write_own<const K: usize>(
+    out: &mut Writer,
     t: &BlockTensor<K>,
     labels: &[i64],
-) -> Result<Value, AllocError>
-    ensures { IfOk result (λ v. view v ≡ own_data t.now labels.now) }
+) -> Result<(), AllocError>
+    ensures { OnOk result (Appends (own_data t.now labels.now) out.old out.new) }
 {
-    let blocks = blocks_value(alloc, t.blocks())?;
-    let flux = charge_value(alloc, t.flux())?;
-    let labels = numbers_value(alloc, labels)?;
-    let legs = legs_value(alloc, t.legs())?;
-    json!(in alloc; {"blocks": blocks, "flux": flux, "labels": labels, "legs": legs})
+    out.begin_object()?;
+    out.key("blocks")?;
+    write_blocks(out, t.blocks())?;
+    out.key("flux")?;
+    write_charge(out, t.flux())?;
+    out.key("labels")?;
+    write_numbers(out, labels)?;
+    out.key("legs")?;
+    write_legs(out, t.legs())?;
+    out.end_object()
 }
 
-fn combine_value<const K: usize>(
-    alloc: Global,
+fn write_combine<const K: usize>(
+    out: &mut Writer,
     c: &Combiner<K>,
     mode: &str,
-) -> Result<Value, AllocError>
-    ensures { IfOk result (λ v. view v ≡ combine_data c.now mode.now) }
+) -> Result<(), AllocError>
+    ensures { OnOk result (Appends (combine_data c.now mode.now) out.old out.new) }
 {
-    let dir = arrow_value(alloc, c.dir())?;
-    let legs = legs_value(alloc, c.legs())?;
-    let mode = Value::try_from_str(alloc, mode)?;
-    json!(in alloc; {"dir": dir, "legs": legs, "mode": mode})
+    out.begin_object()?;
+    out.key("dir")?;
+    write_arrow(out, c.dir())?;
+    out.key("legs")?;
+    write_legs(out, c.legs())?;
+    out.key("mode")?;
+    out.string(mode)?;
+    out.end_object()
 }
 
-fn table_value<const K: usize>(
-    alloc: Global,
+fn write_table<const K: usize>(
+    out: &mut Writer,
     c: &Combiner<K>,
     mode: &str,
     labels: &[i64],
-) -> Result<Value, AllocError>
-    ensures { IfOk result (λ v. view v ≡ table_data c.now mode.now labels.now) }
+) -> Result<(), AllocError>
+    ensures { OnOk result (Appends (table_data c.now mode.now labels.now) out.old out.new) }
 {
-    let combine = combine_value(alloc, c, mode)?;
-    let labels = numbers_value(alloc, labels)?;
-    json!(in alloc; {"combine": combine, "labels": labels})
+    out.begin_object()?;
+    out.key("combine")?;
+    write_combine(out, c, mode)?;
+    out.key("labels")?;
+    write_numbers(out, labels)?;
+    out.end_object()
 }
 
-fn member_value<const K: usize>(alloc: Global, m: &NetTensor<K>) -> Result<Value, AllocError>
-    ensures { IfOk result (λ v. view v ≡ member_data m.now) }
+fn write_member<const K: usize>(out: &mut Writer, m: &NetTensor<K>) -> Result<(), AllocError>
+    ensures { OnOk result (Appends (member_data m.now) out.old out.new) }
 {
     match &m.member {
-        Member::Tensor(t) => own_value(alloc, t, m.labels()),
-        Member::Fuse(c) => table_value(alloc, c, "fuse", m.labels()),
-        Member::Split(c) => table_value(alloc, c, "split", m.labels()),
+        Member::Tensor(t) => write_own(out, t, m.labels()),
+        Member::Fuse(c) => write_table(out, c, "fuse", m.labels()),
+        Member::Split(c) => write_table(out, c, "split", m.labels()),
     }
 }
 
-fn members_value<const K: usize>(
-    alloc: Global,
+fn write_members<const K: usize>(
+    out: &mut Writer,
     members: &[NetTensor<K>],
-) -> Result<Value, AllocError>
-    ensures { IfOk result (λ v. view v ≡ list_data (map member_data members.now)) }
+) -> Result<(), AllocError>
+    ensures { OnOk result (Appends (list_data (map member_data members.now)) out.old out.new) }
 {
-    let mut list = Vec::new(alloc);
-    let mut rest = members;
-    while let [m, tail @ ..] = rest {
-        list.push(member_value(alloc, m)?)?;
-        rest = tail;
+    out.begin_array()?;
+    for m in members {
+        write_member(out, m)?;
     }
-    Ok(Value::Array(list))
+    out.end_array()
 }
 
-fn network_value<const K: usize>(
-    alloc: Global,
+fn write_parts<const K: usize>(
+    out: &mut Writer,
     group: &Group<K>,
     order: &[i64],
     members: &[NetTensor<K>],
-) -> Result<Value, AllocError>
-    ensures { IfOk result (λ v. view v ≡ network_data group.now order.now members.now) }
+) -> Result<(), AllocError>
+    ensures { OnOk result (Appends (network_data group.now order.now members.now) out.old out.new) }
 {
-    let group = group_value(alloc, group)?;
-    let order = numbers_value(alloc, order)?;
-    let tensors = members_value(alloc, members)?;
-    json!(in alloc; {"group": group, "order": order, "tensors": tensors})
+    out.begin_object()?;
+    out.key("group")?;
+    write_group(out, group)?;
+    out.key("order")?;
+    write_numbers(out, order)?;
+    out.key("tensors")?;
+    write_members(out, members)?;
+    out.end_object()
 }
 
 /// What holds of each member. Nothing is done.
@@ -105,13 +119,13 @@ fn known_members<const K: usize>(members: &[NetTensor<K>])
 
 /// The text of a network: one line of compact JSON with its newline. Blocks that are all zeros are
 /// left out. A combiner is written as it was given, never as its table.
-#[tactic(auto, using(crate::proofs::TextForms::no_float))]
 pub fn write_network<const K: usize>(alloc: Global, net: &Network<K>) -> Result<Vec<u8>, AllocError>
     ensures { IfOk result (λ bytes. IsTextOf net.now bytes.items) }
 {
     let members = net.tensors();
     known_members(members);
-    let value = network_value(alloc, net.group(), net.order(), members)?;
-    let text = line(alloc, &value)?;
+    let mut out = Writer::new(Vec::new(alloc));
+    write_parts(&mut out, net.group(), net.order(), members)?;
+    let text = finished(out)?;
     Ok(text)
 }

@@ -1,11 +1,16 @@
 -- What the parts of a pair's tasks ask for follows from what is asked of the pair.
-use Rattle.std.proofs.Common.{◌≡◌, ℕ, ◌<◌, ◌≤◌, ◌^◌, ℤ, List, length, get_or, arith, sym, subst}
-use Rattle.std.specs.List.{All}
+use Rattle.std.proofs.Common.{◌≡◌, ◌∙◌, ℕ, ◌<◌, ◌≤◌, ◌^◌, ℤ, List, [], length, get_or, arith, sym, ap₂, subst}
+use Rattle.std.specs.Cmp.Lexicographic.{slice_cmp}
+use Rattle.std.specs.Ordering.{nat_cmp}
+use Rattle.std.specs.declared.cmp.Ordering.TheVariants.{Less}
+use Rattle.std.specs.List.{All, AllPairs}
+use Rattle.std.proofs.lemmas.List.{get_or_default}
 use Rattle.qn_charge.specs.declared.factor.Factor.{Factor}
 use Rattle.qn_charge.specs.Charges.{IsCanonical, IsWithin, sum_charge}
 use Rattle.qn_charge.specs.Laws.{within_more}
 use Rattle.qn_index.specs.Legs.{LegValue, IsLegOf}
-use Rattle.qn_index.specs.Tuples.{IsFlux, count}
+use Rattle.qn_index.specs.Tuples.{IsFlux, count, admitted}
+use Rattle.qn_index.proofs.Admitted.{admitted_ascend}
 use Rattle.qn_index.proofs.Nets.{tuple_length}
 use Rattle.qn_value.specs.Tensors.{BlockValue}
 use Rattle.qn_block.specs.Blocked.{BlockedValue, IsBlocked}
@@ -54,3 +59,10 @@ pub are_long : (a : BlockedValue) (bs : List BlockValue) (ls : List LegValue) �
 are_long a bs ls e f h =
     let base : AreLong (length a.legs) a.blocks = record { counts = λ k d lt. tuple_length a.legs (get_or a.blocks k d).tuple (h.blocks k d lt).tuple } in
     subst (λ cs. AreLong (length ls) cs) (sym e) (subst (λ ks. AreLong (length ks) a.blocks) (sym f) base)
+
+-- the tuples of the result ascend
+pub are_ascending : (fs : List Factor) (ls : List LegValue) (q : List ℤ) (ts : List (List ℕ)) → ts ≡ admitted fs ls q → AllPairs (λ s t. slice_cmp nat_cmp s t ≡ Less) ts
+are_ascending fs ls q ts e i j d lt m =
+    let k : j < length (admitted fs ls q) = subst (λ us. j < length us) e m in
+    subst (λ us. slice_cmp nat_cmp (get_or us i d) (get_or us j d) ≡ Less) (sym e)
+    (ap₂ (λ s t. slice_cmp nat_cmp s t) (get_or_default (admitted fs ls q) i d [] (omega arith)) (get_or_default (admitted fs ls q) j d [] k) ∙ admitted_ascend fs ls q i j lt k)

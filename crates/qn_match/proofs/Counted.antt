@@ -43,11 +43,11 @@ pub record CanSum (ls : List LegValue) (ms : List Bool) (ps bases : List ℕ) (t
   pub digits : All (λ u. AreDigits bases (digits_of ps u)) ts
   pub small : sum_by (block_size ls) ts ≤ 2 ^ 22
 
-second_places : (shared : List (ℕ × ℕ)) (n : ℕ) → All (λ p. p.1 < n) shared → All (λ k. k < n) (map (λ p. p.1) shared)
+pub second_places : (shared : List (ℕ × ℕ)) (n : ℕ) → All (λ p. p.1 < n) shared → All (λ k. k < n) (map (λ p. p.1) shared)
 second_places [] n h = λ k d lt. absurd (omega arith)
 second_places (p ∷ ps) n h = All-cons (λ k. k < n) p.1 (map (λ q. q.1) ps) (h 0 p (omega arith)) (second_places ps n (All-tail (λ q. q.1 < n) p ps h))
 
-first_places : (shared : List (ℕ × ℕ)) (n : ℕ) → All (λ p. p.0 < n) shared → All (λ k. k < n) (map (λ p. p.0) shared)
+pub first_places : (shared : List (ℕ × ℕ)) (n : ℕ) → All (λ p. p.0 < n) shared → All (λ k. k < n) (map (λ p. p.0) shared)
 first_places [] n h = λ k d lt. absurd (omega arith)
 first_places (p ∷ ps) n h = All-cons (λ k. k < n) p.0 (map (λ q. q.0) ps) (h 0 p (omega arith)) (first_places ps n (All-tail (λ q. q.0 < n) p ps h))
 

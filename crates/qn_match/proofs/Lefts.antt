@@ -1,18 +1,15 @@
 -- What is left beside marked elements, and pairs of positions one by one.
-use Rattle.std.proofs.Common.{◌≡◌, ℕ, zero, suc, ◌+◌, ◌<◌, ◌≤◌, Bool, true, false, cond, List, [], ◌∷◌, ◌++◌, length, map, filter, get_or, drop, arith, refl, ap, ap₂, ◌&&◌, ◌==◌, ◌∙◌, sym, subst, add-one, append_assoc}
+use Rattle.std.proofs.Common.{◌≡◌, ℕ, zero, suc, ◌+◌, ◌<◌, ◌≤◌, Bool, true, false, cond, List, [], ◌∷◌, ◌++◌, length, map, filter, get_or, drop, arith, refl, ap, ap₂, ◌∙◌, sym, subst, add-one, append_assoc}
 use Rattle.std.specs.List.{All, flat_map}
-use Rattle.std.proofs.lemmas.Bool.{true≢false}
 use Rattle.std.proofs.lemmas.List.{append-nil, drop_all}
 use Rattle.std.proofs.lemmas.List.Elements.{All-nil, All-cons, All-tail, filter-append}
 use Rattle.std.proofs.lemmas.Grind.{flat_map-append}
-use Rattle.std.proofs.lemmas.List.FromFn.{filter_of_map_range_with_len_more}
 use Rattle.qn_sign.specs.Positions.{positions}
 use Rattle.std.specs.Prelude.{Result, Ok, Err, IfOk}
 use Rattle.std.proofs.Common.{Vec, Global}
 use Rattle.std.proofs.lemmas.List.FromFn.{length-map-range_with_len}
-use Rattle.qn_value.specs.Tensors.{BlockValue, same_values}
-use Rattle.qn_block.specs.Refusals.{block_at}
-use Rattle.qn_match.specs.Pairs.{agree, all_pairs, begins, first_left, give, is_first, marks, second_left, unmarked}
+use Rattle.qn_value.specs.Tensors.{BlockValue}
+use Rattle.qn_match.specs.Pairs.{all_pairs, marks, unmarked}
 use Rattle.qn_value.proofs.OpenLegs.{range-last}
 
 -- some elements have been looked at, and those without a mark appended
@@ -64,25 +61,16 @@ all_unmarked P (false ∷ ms) (x ∷ xs) h = All-cons P x (unmarked ms xs) (h 0 
 
 -- ---- positions
 
+pub positions_more : (n : ℕ) → positions (n + 1) ≡ positions n ++ n ∷ []
+positions_more n = ap positions (add-one n) ∙ (range-last 0 n ∙ ap (λ k. positions n ++ k ∷ []) (omega arith))
+
 -- the pairs with one first position more
-pub pairs_more : (p : (ℕ × ℕ) → Bool) (i n : ℕ) → filter p (all_pairs (i + 1) n) ≡ filter p (all_pairs i n) ++ filter p (map (λ j. (i, j)) (positions n))
+pairs_more : (p : (ℕ × ℕ) → Bool) (i n : ℕ) → filter p (all_pairs (i + 1) n) ≡ filter p (all_pairs i n) ++ filter p (map (λ j. (i, j)) (positions n))
 pairs_more p i n =
     let row : ℕ → List (ℕ × ℕ) = λ k. map (λ j. (k, j)) (positions n) in
-    let next : positions (i + 1) ≡ positions i ++ i ∷ [] = ap positions (add-one i) ∙ (range-last 0 i ∙ ap (λ k. positions i ++ k ∷ []) (omega arith)) in
-    ap (λ ks. filter p (flat_map row ks)) next
+    ap (λ ks. filter p (flat_map row ks)) (positions_more i)
     ∙ (ap (filter p) (flat_map-append row (positions i) (i ∷ []) ∙ ap (λ xs. flat_map row (positions i) ++ xs) (append-nil (row i)))
     ∙ filter-append p (flat_map row (positions i)) (row i))
-
--- one second position more
-pub row_more : (before out new : List (ℕ × ℕ)) (p : (ℕ × ℕ) → Bool) (i j : ℕ) → out ≡ before ++ filter p (map (λ k. (i, k)) (positions j)) → new ≡ out ++ cond (p (i, j)) ((i, j) ∷ []) [] →
-    new ≡ before ++ filter p (map (λ k. (i, k)) (positions (j + 1)))
-row_more before out new p i j h n =
-    let row : ℕ → ℕ × ℕ = λ k. (i, k) in
-    let last : List (ℕ × ℕ) = cond (p (i, j)) ((i, j) ∷ []) [] in
-    n
-    ∙ (ap (λ xs. xs ++ last) h
-    ∙ (append_assoc before (filter p (map row (positions j))) last
-    ∙ ap (λ ys. before ++ ys) (sym (filter_of_map_range_with_len_more p row 0 j j (omega arith)))))
 
 row_same : (p q : (ℕ × ℕ) → Bool) (i : ℕ) (ks : List ℕ) → ((j : ℕ) → q (i, j) ≡ p (i, j)) → filter q (map (λ j. (i, j)) ks) ≡ filter p (map (λ j. (i, j)) ks)
 row_same p q i [] e = refl
@@ -92,34 +80,6 @@ row_same p q i (k ∷ ks) e = ap₂ (λ b xs. cond b ((i, k) ∷ xs) xs) (e k) (
 pub row_done : (p q : (ℕ × ℕ) → Bool) (before new : List (ℕ × ℕ)) (i n : ℕ) → ((j : ℕ) → q (i, j) ≡ p (i, j)) → before ≡ filter p (all_pairs i n) → new ≡ before ++ filter q (map (λ j. (i, j)) (positions n)) → new ≡ filter p (all_pairs (i + 1) n)
 row_done p q before new i n e h m =
     m ∙ (ap₂ (λ xs ys. xs ++ ys) h (row_same p q i (positions n) e) ∙ sym (pairs_more p i n))
-
--- ---- blocks that are passed over
-
-continued : (xs ys zs : List ℕ) → begins xs zs ≡ false → same_values (xs ++ ys) zs ≡ false
-continued [] ys zs e = absurd (true≢false e)
-continued (x ∷ xs) ys [] e = refl
-continued (x ∷ xs) ys (z ∷ zs) e = by (x == z) e (continued xs ys zs)
-  where
-    by : (b : Bool) → (b && begins xs zs) ≡ false → (begins xs zs ≡ false → same_values (xs ++ ys) zs ≡ false) → (b && same_values (xs ++ ys) zs) ≡ false
-    by true h c = c h
-    by false h c = refl
-
-none_given : (shared : List (ℕ × ℕ)) (out t u : List ℕ) → begins (first_left shared t) out ≡ false → give shared out t u ≡ false
-none_given shared out t u e = by (agree shared t u) (continued (first_left shared t) (second_left shared u) out e)
-  where
-    by : (b : Bool) {c : Bool} → c ≡ false → (b && c) ≡ false
-    by true h = h
-    by false h = refl
-
-none_kept : (p : (ℕ × ℕ) → Bool) (i : ℕ) (ks : List ℕ) → ((j : ℕ) → p (i, j) ≡ false) → filter p (map (λ j. (i, j)) ks) ≡ []
-none_kept p i [] e = refl
-none_kept p i (k ∷ ks) e = ap (λ b. cond b ((i, k) ∷ filter p (map (λ j. (i, j)) ks)) (filter p (map (λ j. (i, j)) ks))) (e k) ∙ none_kept p i ks e
-
--- a first block of which the tuple does not begin with what is left has no pair
-pub passed_over : (shared : List (ℕ × ℕ)) (i : ℕ) (t left out : List ℕ) (bs : List BlockValue) (before : List (ℕ × ℕ)) → left ≡ unmarked (marks (is_first shared) (length t)) t → begins left out ≡ false →
-    before ≡ before ++ filter (λ (p : ℕ × ℕ). give shared out t (block_at bs p.1).tuple) (map (λ j. (i, j)) (positions (length bs)))
-passed_over shared i t left out bs before e n =
-    sym (ap (λ xs. before ++ xs) (none_kept (λ (p : ℕ × ℕ). give shared out t (block_at bs p.1).tuple) i (positions (length bs)) (λ j. none_given shared out t (block_at bs j).tuple (ap (λ l. begins l out) (sym e) ∙ n))) ∙ append-nil before)
 
 pub marks_length : (f : ℕ → Bool) (n : ℕ) → length (marks f n) ≡ n
 marks_length f n = length-map-range_with_len f 0 n

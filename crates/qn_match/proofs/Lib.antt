@@ -1,5 +1,7 @@
+mod Added
 pub mod Conditions
 pub mod Counted
+mod Indexing
 mod LeftSizes
 mod Lefts
 pub mod OpenLegs

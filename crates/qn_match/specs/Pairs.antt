@@ -52,12 +52,6 @@ left_of_first shared b = first_left shared b.tuple
 abbrev pub left_of_second : List (ℕ × ℕ) → BlockValue → List ℕ
 left_of_second shared b = second_left shared b.tuple
 
--- a list begins with these elements
-abbrev pub begins : List ℕ → List ℕ → Bool
-begins [] ys = true
-begins (x ∷ xs) [] = false
-begins (x ∷ xs) (y ∷ ys) = (x == y) && begins xs ys
-
 -- two tuples have one sector on each shared leg
 abbrev pub agree : List (ℕ × ℕ) → List ℕ → List ℕ → Bool
 agree [] t u = true
@@ -75,6 +69,13 @@ all_pairs m n = flat_map (λ i. map (λ j. (i, j)) (positions n)) (positions m)
 pub record TaskValue : Type 0 where
   pub out : List ℕ
   pub pairs : List (ℕ × ℕ)
+
+-- a task without a pair
+abbrev pub empty_task : List ℕ → TaskValue
+empty_task out = record { out = out; pairs = [] }
+
+abbrev pub no_task : TaskValue
+no_task = empty_task []
 
 -- the pairs of stored blocks that agree on the shared legs and give this tuple, ascending
 abbrev pub pairs_for : List (ℕ × ℕ) → List BlockValue → List BlockValue → List ℕ → List (ℕ × ℕ)

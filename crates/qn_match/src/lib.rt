@@ -2,11 +2,12 @@
 #![tactic(auto)]
 
 mod counting;
+mod filling;
+mod index;
 mod keys;
 pub mod laws;
 mod marks;
 mod pairing;
-mod scan;
 mod task;
 #[cfg(test)]
 mod tests;

@@ -1,13 +1,19 @@
 //! The tasks of a contraction.
 ghost use Rattle.std.specs.Prelude.{◌≡◌, ◌<◌, length, map, All, IfOk};
-ghost use Rattle.qn_match.specs.Pairs.{joined, left_of_first, left_of_second, task_for, tasks, IsPair};
+ghost use Rattle.std.specs.Cmp.Lexicographic.{slice_cmp};
+ghost use Rattle.std.specs.List.{AllPairs};
+ghost use Rattle.std.specs.Ordering.{nat_cmp};
+ghost use Rattle.qn_match.specs.Pairs.{unmarked, joined, left_of_first, left_of_second, empty_task, task_for, tasks, IsPair};
 
-use crate::marks::{append_legs, first_marks, second_marks};
-use crate::scan::{left_of_blocks, pairs_for};
+use crate::filling::add_row;
+use crate::index::{index_of, key_of, positions_of};
+use crate::keys::{first_places, second_places};
+use crate::marks::{append_legs, append_sectors, first_marks, second_marks};
 use qn_block::{Block, BlockTensor};
 use qn_charge::Abelian;
 use qn_index::{Leg, Tuple, admissible};
 use std::alloc::{AllocError, Global};
+use std::cmp::Ordering;
 use std::marker::Model;
 
 /// A tuple of the result of a contraction, and the positions of the blocks that are multiplied for it.
@@ -42,6 +48,20 @@ pub fn result_legs<const K: usize>(
     Ok(legs)
 }
 
+/// What is left of each block's tuple beside the marked legs.
+fn left_of_blocks(alloc: Global, blocks: &[Block], marks: &[bool]) -> Result<Vec<Tuple>, AllocError>
+    requires counts { All (λ b. length b.tuple ≡ length marks.now) blocks.now }
+    ensures { IfOk result (λ v. v.items ≡ map (λ b. unmarked marks.now b.tuple) blocks.now) }
+{
+    let mut lefts = Vec::with_capacity(alloc, blocks.len())?;
+    for block in blocks {
+        let mut left = Vec::new(alloc);
+        append_sectors(block.tuple.as_slice(), marks, &mut left)?;
+        lefts.push(Tuple::new(left))?;
+    }
+    Ok(lefts)
+}
+
 /// What is left of each block's tuple in the first tensor.
 fn left_of_firsts(
     alloc: Global,
@@ -70,6 +90,20 @@ fn left_of_seconds(
     left_of_blocks(alloc, blocks, &marks)
 }
 
+/// A task without a pair for each of these tuples.
+fn empty_tasks(alloc: Global, tuples: &[Tuple]) -> Result<Vec<Task>, AllocError>
+    ensures { IfOk result (λ ts. ts.items ≡ map empty_task tuples.now) }
+{
+    let mut tasks = Vec::with_capacity(alloc, tuples.len())?;
+    for out in tuples {
+        tasks.push(Task {
+            out: out.copy()?,
+            pairs: Vec::new(alloc),
+        })?;
+    }
+    Ok(tasks)
+}
+
 /// The tasks of these tuples of the result.
 fn tasks_of(
     alloc: Global,
@@ -84,23 +118,24 @@ fn tasks_of(
     requires seconds { All (λ b. All (λ p. p.1 < length b.tuple) shared.now) seconds.now }
     requires first_lefts { first_lefts.now ≡ map (left_of_first shared.now) firsts.now }
     requires second_lefts { second_lefts.now ≡ map (left_of_second shared.now) seconds.now }
+    requires ascending { AllPairs (λ s t. slice_cmp nat_cmp s t ≡ Ordering.Less) tuples.now }
     ensures { IfOk result (λ ts. ts.items ≡ map (task_for shared.now firsts.now seconds.now) tuples.now) }
 {
-    let mut tasks = Vec::with_capacity(alloc, tuples.len())?;
-    for out in tuples {
-        let pairs = pairs_for(
+    let places = first_places(alloc, shared)?;
+    let index = index_of(alloc, &second_places(alloc, shared)?, seconds)?;
+    let mut tasks = empty_tasks(alloc, tuples)?;
+    for i in 0..firsts.len() {
+        let block = &firsts[i];
+        let key = key_of(alloc, &places, block.tuple.as_slice())?;
+        let found = positions_of(&index, &key);
+        add_row(
             alloc,
-            shared,
-            firsts,
-            first_lefts,
-            seconds,
+            i,
+            first_lefts[i].as_slice(),
             second_lefts,
-            out.as_slice(),
+            found,
+            &mut tasks,
         )?;
-        tasks.push(Task {
-            out: out.copy()?,
-            pairs,
-        })?;
     }
     Ok(tasks)
 }

@@ -269,6 +269,302 @@ fn tasks_and_their_cost(rt: HostRuntime) -> Result<(), Fail> {
     Ok(())
 }
 
+// The legs of a tensor, its flux and its blocks.
+type Shape<'a> = (&'a [LegRow<'a>], i64, &'a [BlockRow<'a>]);
+
+// Two tensors, the shared legs, and how many pairs of blocks there are.
+struct Case<'a> {
+    first: Shape<'a>,
+    second: Shape<'a>,
+    shared: &'a [(usize, usize)],
+    pairs: usize,
+}
+
+// Two sectors of one charge.
+const TWICE: &[(i64, u32)] = &[(0, 1), (0, 1)];
+
+const MATRIX: &[LegRow<'static>] = &[(Dir::In, SITE), (Dir::Out, SITE)];
+
+const TURNED: &[LegRow<'static>] = &[(Dir::Out, SITE), (Dir::In, SITE)];
+
+const SQUARE: &[LegRow<'static>] = &[(Dir::In, TWICE), (Dir::Out, TWICE)];
+
+const DIAGONAL: &[BlockRow<'static>] = &[(&[0, 0], 1), (&[1, 1], 1)];
+
+const FULL: &[BlockRow<'static>] = &[(&[0, 0], 1), (&[0, 1], 1), (&[1, 0], 1), (&[1, 1], 1)];
+
+const OUT3: &[LegRow<'static>] = &[(Dir::Out, SITE), (Dir::Out, SITE), (Dir::Out, SITE)];
+
+const IN3: &[LegRow<'static>] = &[(Dir::In, SITE), (Dir::In, SITE), (Dir::In, SITE)];
+
+const OUT4: &[LegRow<'static>] = &[
+    (Dir::Out, SITE),
+    (Dir::Out, SITE),
+    (Dir::Out, SITE),
+    (Dir::Out, TWICE),
+];
+
+const IN4: &[LegRow<'static>] = &[
+    (Dir::In, SITE),
+    (Dir::In, SITE),
+    (Dir::In, SITE),
+    (Dir::In, TWICE),
+];
+
+const FIRST_OF_FOUR: Shape<'static> = (
+    OUT4,
+    1,
+    &[
+        (&[0, 0, 1, 0], 1),
+        (&[0, 0, 1, 1], 1),
+        (&[0, 1, 0, 0], 1),
+        (&[1, 0, 0, 1], 1),
+    ],
+);
+
+const SECOND_OF_FOUR: Shape<'static> = (
+    IN4,
+    -1,
+    &[
+        (&[0, 0, 1, 1], 1),
+        (&[0, 1, 0, 0], 1),
+        (&[1, 0, 0, 0], 1),
+        (&[1, 0, 0, 1], 1),
+    ],
+);
+
+const FIRST_OF_TEN: Shape<'static> = (
+    &[(Dir::Out, TWICE); 10],
+    0,
+    &[
+        (&[0, 0, 0, 0, 0, 0, 0, 0, 0, 0], 1),
+        (&[0, 0, 0, 0, 0, 0, 0, 0, 1, 0], 1),
+        (&[0, 0, 0, 0, 0, 0, 0, 0, 1, 1], 1),
+        (&[1, 0, 0, 0, 0, 0, 0, 0, 0, 1], 1),
+    ],
+);
+
+const SECOND_OF_TEN: Shape<'static> = (
+    &[(Dir::In, TWICE); 10],
+    0,
+    &[
+        (&[0, 0, 0, 0, 0, 0, 0, 0, 0, 1], 1),
+        (&[0, 0, 0, 0, 0, 0, 0, 0, 1, 0], 1),
+        (&[1, 0, 0, 0, 0, 0, 0, 0, 0, 0], 1),
+    ],
+);
+
+const STRAIGHT: &[(usize, usize)] = &[
+    (0, 0),
+    (1, 1),
+    (2, 2),
+    (3, 3),
+    (4, 4),
+    (5, 5),
+    (6, 6),
+    (7, 7),
+    (8, 8),
+];
+
+const BACKWARD: &[(usize, usize)] = &[
+    (0, 8),
+    (1, 7),
+    (2, 6),
+    (3, 5),
+    (4, 4),
+    (5, 3),
+    (6, 2),
+    (7, 1),
+    (8, 0),
+];
+
+const CASES: &[Case<'static>] = &[
+    // No shared leg.
+    Case {
+        first: (&[], 0, &[(&[], 1)]),
+        second: (&[], 0, &[(&[], 1)]),
+        shared: &[],
+        pairs: 1,
+    },
+    Case {
+        first: (&[(Dir::Out, SITE)], 1, &[(&[1], 1)]),
+        second: (&[(Dir::Out, SITE)], 0, &[(&[0], 1)]),
+        shared: &[],
+        pairs: 1,
+    },
+    Case {
+        first: (SQUARE, 0, FULL),
+        second: (MATRIX, 0, DIAGONAL),
+        shared: &[],
+        pairs: 8,
+    },
+    // One, with all blocks or none.
+    Case {
+        first: (MATRIX, 0, DIAGONAL),
+        second: (MATRIX, 0, DIAGONAL),
+        shared: &[(1, 0)],
+        pairs: 2,
+    },
+    Case {
+        first: (MATRIX, 0, DIAGONAL),
+        second: (TURNED, 0, DIAGONAL),
+        shared: &[(1, 1)],
+        pairs: 2,
+    },
+    Case {
+        first: (MATRIX, 0, DIAGONAL),
+        second: (MATRIX, 0, &[]),
+        shared: &[(1, 0)],
+        pairs: 0,
+    },
+    Case {
+        first: (MATRIX, 0, &[]),
+        second: (MATRIX, 0, DIAGONAL),
+        shared: &[(1, 0)],
+        pairs: 0,
+    },
+    Case {
+        first: (MATRIX, 0, &[]),
+        second: (MATRIX, 0, &[]),
+        shared: &[(1, 0)],
+        pairs: 0,
+    },
+    // Equal charges in two sectors.
+    Case {
+        first: (SQUARE, 0, FULL),
+        second: (SQUARE, 0, FULL),
+        shared: &[(1, 0)],
+        pairs: 8,
+    },
+    Case {
+        first: (SQUARE, 0, &[(&[0, 1], 1), (&[1, 1], 1)]),
+        second: (SQUARE, 0, &[(&[0, 0], 1), (&[1, 0], 1)]),
+        shared: &[(1, 0)],
+        pairs: 2,
+    },
+    // Three.
+    Case {
+        first: FIRST_OF_FOUR,
+        second: SECOND_OF_FOUR,
+        shared: &[(0, 0), (1, 1), (2, 2)],
+        pairs: 5,
+    },
+    Case {
+        first: FIRST_OF_FOUR,
+        second: SECOND_OF_FOUR,
+        shared: &[(0, 2), (1, 1), (2, 0)],
+        pairs: 6,
+    },
+    Case {
+        first: (OUT3, 1, &[(&[0, 0, 1], 1), (&[0, 1, 0], 1)]),
+        second: (IN3, -1, &[(&[0, 1, 0], 1), (&[1, 0, 0], 1)]),
+        shared: &[(0, 0), (1, 1), (2, 2)],
+        pairs: 1,
+    },
+    Case {
+        first: (OUT3, 1, &[(&[0, 0, 1], 1)]),
+        second: (IN3, -1, &[(&[0, 1, 0], 1)]),
+        shared: &[(2, 2), (0, 0), (1, 1)],
+        pairs: 0,
+    },
+    // Nine.
+    Case {
+        first: FIRST_OF_TEN,
+        second: SECOND_OF_TEN,
+        shared: STRAIGHT,
+        pairs: 4,
+    },
+    Case {
+        first: FIRST_OF_TEN,
+        second: SECOND_OF_TEN,
+        shared: BACKWARD,
+        pairs: 4,
+    },
+];
+
+// Whether two tuples have one sector on each shared leg.
+fn agree(shared: &[(usize, usize)], first: &[u32], second: &[u32]) -> bool {
+    for (k, l) in shared {
+        if first.get(*k).copied() != second.get(*l).copied() {
+            return false;
+        }
+    }
+    true
+}
+
+// What is left of two tuples beside the shared legs.
+fn joined(
+    alloc: Global,
+    shared: &[(usize, usize)],
+    first: &[u32],
+    second: &[u32],
+) -> Result<Vec<u32>, AllocError> {
+    let mut left = Vec::new(alloc);
+    for (k, sector) in first.iter().enumerate() {
+        if shared.iter().all(|pair| pair.0 != k) {
+            left.push(*sector)?;
+        }
+    }
+    for (k, sector) in second.iter().enumerate() {
+        if shared.iter().all(|pair| pair.1 != k) {
+            left.push(*sector)?;
+        }
+    }
+    Ok(left)
+}
+
+// The pairs of blocks that agree on the shared legs and give this tuple, looked for one by one.
+fn scan(
+    alloc: Global,
+    firsts: &[Block],
+    seconds: &[Block],
+    shared: &[(usize, usize)],
+    out: &[u32],
+) -> Result<Vec<(usize, usize)>, AllocError> {
+    let mut found = Vec::new(alloc);
+    for (i, first) in firsts.iter().enumerate() {
+        for (j, second) in seconds.iter().enumerate() {
+            let (t, u) = (first.tuple(), second.tuple());
+            if agree(shared, t, u) && joined(alloc, shared, t, u)?.as_slice() == out {
+                found.push((i, j))?;
+            }
+        }
+    }
+    Ok(found)
+}
+
+fn compare_with_scan(rt: &impl Abort, alloc: Global, case: &Case) -> Result<(), AllocError> {
+    let (legs, flux, blocks) = case.first;
+    let a = tensor(rt, alloc, legs, flux, blocks)?;
+    let (legs, flux, blocks) = case.second;
+    let b = tensor(rt, alloc, legs, flux, blocks)?;
+    expect_pair(rt, alloc, &a, &b, case.shared)?;
+    let mut left = case.pairs;
+    for task in &pairs(alloc, &a, &b, case.shared)? {
+        let wanted = scan(
+            alloc,
+            a.blocks(),
+            b.blocks(),
+            case.shared,
+            task.out.as_slice(),
+        )?;
+        assert_eq!(rt; task.pairs.as_slice(), wanted.as_slice());
+        assert!(rt; task.pairs.len() <= left);
+        left -= task.pairs.len();
+    }
+    assert_eq!(rt; left, 0);
+    Ok(())
+}
+
+// What the index finds is what a search through all pairs of blocks finds.
+#[test]
+fn index_and_scan(rt: HostRuntime) -> Result<(), Fail> {
+    for case in CASES {
+        compare_with_scan(&rt, rt.alloc(), case)?;
+    }
+    Ok(())
+}
+
 #[test]
 fn tensors_that_cannot_be_contracted(rt: HostRuntime) -> Result<(), Fail> {
     let alloc = rt.alloc();

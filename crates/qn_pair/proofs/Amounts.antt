@@ -25,7 +25,7 @@ use Rattle.qn_strides.proofs.Lines.{all_slots}
 use Rattle.qn_strides.proofs.Opens.{left_legs, left_ends, opens_eq}
 use Rattle.qn_strides.proofs.Blocks.{distinct_blocks}
 use Rattle.qn_strides.proofs.Reals.{real, real_one, real_total, no_parity, sign_none, exchange_none, odd_none, size_of, size_block, size_entry, size_in, size_have, size_distinct, size_node}
-use Rattle.qn_pair.specs.Sources.{couples_of, PairedValue, SourceValue, paired_axes, sum_both, total_both, product_at, size_at, source_of, sources, source_size, size_sum}
+use Rattle.qn_kernel.specs.Sources.{couples_of, PairedValue, SourceValue, paired_axes, sum_both, total_both, product_at, size_at, source_of, sources, source_size, size_sum}
 use Rattle.qn_pair.proofs.Weighed.{first_ends, second_ends, shifted}
 use Rattle.qn_pair.proofs.Terms.{pair_term, first_blocked, second_blocked, flat_pairs}
 use Rattle.qn_pair.proofs.Contracted.{sum_map, sum_pairs, unit, real_mul, real_both, real_sum, slots_two, first_node, second_node, lines, good, fit, first_alike, second_alike, have_first, have_second}

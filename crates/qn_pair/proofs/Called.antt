@@ -27,7 +27,7 @@ use Rattle.qn_strides.specs.Strides.{goal_couples, open_places, goal_places}
 use Rattle.qn_strides.proofs.Goal.{perm_goal}
 use Rattle.qn_strides.proofs.Lines.{all_within, open_within}
 use Rattle.qn_strides.proofs.Charged.{charge_or_not}
-use Rattle.qn_pair.specs.Sources.{couples_of, IsFrame}
+use Rattle.qn_kernel.specs.Sources.{couples_of, IsFrame}
 use Rattle.qn_pair.specs.Steps.{result_legs, result_flux, IsEntry}
 use Rattle.qn_pair.proofs.Words.{coupling, legs_left, result_is}
 pub use Rattle.qn_match.proofs.Conditions.{are_added}

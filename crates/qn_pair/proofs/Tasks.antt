@@ -24,7 +24,7 @@ use Rattle.qn_match.specs.Pairs.{give, all_pairs, pairs_for, TaskValue, task_for
 use Rattle.qn_match.specs.Shares.{shared_size, products_of}
 use Rattle.qn_strides.proofs.Opens.{left_legs}
 use Rattle.qn_strides.proofs.Passing.{clear_block, passing_block}
-use Rattle.qn_pair.specs.Sources.{couples_of, SourceValue, paired_axes, all_values, source_of, sources, entry_sum, size_sum, products, IsFrame, IsReadable, IsPassing}
+use Rattle.qn_kernel.specs.Sources.{couples_of, SourceValue, paired_axes, all_values, source_of, sources, entry_sum, size_sum, products, IsFrame, IsReadable, IsPassing}
 use Rattle.qn_pair.specs.Steps.{result_legs, passing_in, IsTaskFault, IsEntry}
 use Rattle.qn_pair.proofs.Words.{legs_left, result_is}
 use Rattle.qn_pair.proofs.Contracted.{entry_is}

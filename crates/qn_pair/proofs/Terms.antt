@@ -28,8 +28,8 @@ use Rattle.qn_strides.proofs.Goal.{below_positions, of_positions, bonds_at, end_
 use Rattle.qn_strides.proofs.Lines.{FitLines, GivesTuple, AreWithin, gives_tuple, legs_from, legs_on_places, bonds_fit, dims_fit, meets_are, opens_are, not_twisted, goal_perm, sign_at}
 use Rattle.qn_strides.proofs.Opens.{place_same, length_maps, ends_distinct, left_legs, left_ends, left_is, left_distinct}
 use Rattle.qn_strides.proofs.Blocks.{over_tuples}
-use Rattle.qn_pair.specs.Sources.{couples_of, paired_axes, sum_both, product_at}
-use Rattle.qn_pair.proofs.Frames.{tuple_joined}
+use Rattle.qn_kernel.specs.Sources.{couples_of, paired_axes, sum_both, product_at}
+use Rattle.qn_kernel.proofs.Frames.{tuple_joined}
 use Rattle.qn_pair.proofs.Words.{range_append, gives_are}
 use Rattle.qn_pair.proofs.Weighed.{both_axes, first_ends, second_ends, shifted, both_along, axes_agree}
 

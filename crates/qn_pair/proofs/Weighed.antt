@@ -23,7 +23,7 @@ use Rattle.qn_strides.specs.Strides.{in_place, goal_couples, open_places, stride
 use Rattle.qn_strides.proofs.Goal.{perm_goal, bonds_at, end_at, numbered, open_label, is_open, in_sectors}
 use Rattle.qn_strides.proofs.Along.{weigh, weigh-perm, weigh-append, map-map, offset_weigh, coupled_sum, couple_weigh, bonds, AreDims, earlier, steady-add, open_steady, start_weigh}
 use Rattle.qn_strides.proofs.Striding.{strides_long}
-use Rattle.qn_pair.specs.Sources.{PairedValue, paired_axes, sum_both, couples_of}
+use Rattle.qn_kernel.specs.Sources.{PairedValue, paired_axes, sum_both, couples_of}
 use Rattle.qn_pair.proofs.Words.{range_append}
 
 -- past the end there is no stride

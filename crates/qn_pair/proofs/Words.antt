@@ -15,7 +15,7 @@ use Rattle.qn_match.specs.Pairs.{is_first, is_second, marks, unmarked, joined, a
 use Rattle.qn_strides.specs.Strides.{open_places, couples_meet}
 use Rattle.qn_strides.proofs.Lines.{open_at}
 use Rattle.qn_strides.proofs.Opens.{left_legs}
-use Rattle.qn_pair.specs.Sources.{couples_of}
+use Rattle.qn_kernel.specs.Sources.{couples_of}
 use Rattle.qn_pair.specs.Steps.{result_legs}
 use Rattle.qn_match.proofs.OpenLegs.{shifted}
 use Rattle.qn_value.proofs.PlacedLemmas.{all_others}

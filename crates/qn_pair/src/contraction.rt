@@ -13,15 +13,15 @@ ghost use Rattle.qn_block.specs.Steps.{IsStepFault};
 ghost use Rattle.qn_match.specs.Pairs.{task_for, tasks, IsPair};
 ghost use Rattle.qn_match.specs.Cost.{cost_of};
 ghost use Rattle.qn_match.specs.Shares.{products_of, TaskWithinShare, SharesWithinCost};
-ghost use Rattle.qn_pair.specs.Sources.{couples_of, IsFrame};
+ghost use Rattle.qn_kernel.specs.Sources.{couples_of, IsFrame};
 ghost use Rattle.qn_pair.specs.Steps.{result_legs, result_flux, passing_place, passing_in, IsTaskFault, IsEntry};
 
 use crate::gate::Gate;
-use crate::source::{block_from, sources_of};
 use qn_block::{Block, BlockTensor, StepFault};
 use qn_charge::{Abelian, Charge, Group};
 use qn_gauss::Steps;
 use qn_index::{Leg, block_len};
+use qn_kernel::{block_from, sources_of};
 use qn_match::laws::tasks_within_cost;
 use qn_match::{Task, pairs};
 use qn_strides::{goal_places, legs_at, open_places};

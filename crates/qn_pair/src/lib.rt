@@ -5,9 +5,6 @@
 mod compared;
 mod contraction;
 mod gate;
-mod paired;
-mod source;
-mod sum;
 #[cfg(test)]
 mod tests;
 

@@ -6,6 +6,9 @@ pub mod Ranges
 pub mod Decimals
 pub mod BlockWalk
 pub mod GroupSize
-pub mod Floats
 pub mod Accepted
 pub mod Depths
+pub mod Noted
+pub mod Rereading
+pub mod Numerals
+pub mod Appending

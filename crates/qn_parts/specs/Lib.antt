@@ -8,3 +8,4 @@ pub mod Entries
 pub mod Tensors
 pub mod Documents
 pub mod TensorTexts
+pub mod Appended

@@ -1,5 +1,7 @@
-ghost use Rattle.std.specs.Prelude.{◌≡◌, ◌+◌, ◌<◌, ◌≤◌, ◌^◌, IfOk, IfSome, map, length, is_none, Some, ⊤};
+ghost use Rattle.std.specs.Prelude.{◌≡◌, ◌+◌, ◌<◌, ◌≤◌, ◌^◌, IfOk, IfSome, OnOk, map, length, is_none, if◌then◌else◌, Some, None, unwrap_or, option_map};
 ghost use Rattle.std.specs.List.{position_from};
+ghost use Rattle.std.specs.Option.{option_or};
+ghost use Rattle.qn_gauss.specs.Gaussian.{zero_g};
 ghost use Rattle.serde_json.specs.View.{view};
 ghost use Rattle.qn_parts.specs.Faults.{Reads, Fails, fault, first_of, first_bad};
 ghost use Rattle.qn_parts.specs.Sectors.{number_of};
@@ -32,81 +34,101 @@ fn sector_numbers(alloc: Global, list: &[Value]) -> Result<Vec<u32>, AllocError>
     list.iter().map(|v| sector_number(v)).collect(alloc)
 }
 
-// The entry, and 0 where F19 holds of it.
+// The entry, and 0 where there is none.
 #[tactic(auto, unfolding(qn_gauss::specs::Gaussian::zero_g))]
-fn entry_or_zero(v: &Value) -> Gauss
-    ensures { result ≡ entry_or_zero (view v.now) }
+fn or_zero(entry: Option<Gauss>) -> Gauss
+    ensures { result ≡ unwrap_or entry zero_g }
 {
-    match entry(v) {
+    match entry {
         Some(entry) => entry,
         None => Gauss::ZERO,
     }
 }
 
-fn entries(alloc: Global, list: &[Value]) -> Result<Vec<Gauss>, AllocError>
-    ensures { IfOk result (λ made. made.items ≡ map (λ v. entry_or_zero (view v)) list.now) }
+// The first bad place, where this one is looked at after those before it.
+fn noted(bad: Option<usize>, is_bad: bool, place: usize) -> Option<usize>
+    ensures { result ≡ option_or bad (if is_bad then Some place else None) }
 {
-    list.iter().map(|v| entry_or_zero(v)).collect(alloc)
+    match bad {
+        Some(first) => Some(first),
+        None => if is_bad { Some(place) } else { None },
+    }
 }
 
-#[tactic(auto, using(crate::proofs::Lists::map_of_views))]
-fn block(alloc: Global, v: &Value) -> Result<Block, AllocError>
-    ensures { IfOk result (λ made. made ≡ block_of (view v.now)) }
+// The entries of a list, each 0 where F19 holds of it, and the place of the first such entry.
+#[tactic(auto, using(crate::proofs::Noted::noted_on, crate::proofs::Noted::noted_within))]
+fn entries(alloc: Global, list: &[Value]) -> Result<(Vec<Gauss>, Option<usize>), AllocError>
+    ensures made { IfOk result (λ r. r.0.items ≡ map (λ v. entry_or_zero (view v)) list.now) }
+    ensures bad { IfOk result (λ r. r.1 ≡ position_from (λ v. is_none (entry_of (view v))) 0 list.now) }
+    ensures within { IfOk result (λ r. IfSome r.1 (λ i. i < length list.now)) }
+{
+    let mut made = Vec::with_capacity(alloc, list.len())?;
+    let mut bad = None;
+    for v in list {
+        let found = entry(v);
+        bad = noted(bad, found.is_none(), made.len());
+        made.push(or_zero(found))?;
+    }
+    Ok((made, bad))
+}
+
+// F19 of the entry at this place of the block, where one is given.
+fn at_entry(tensor: u32, part: u32, bad: Option<usize>) -> Option<Fault>
+    requires { IfSome bad (λ i. i + 1 < 2 ^ 63) }
+    ensures { result ≡ option_map (λ i. fault 19 tensor part (i + 1)) bad }
+{
+    match bad {
+        Some(i) => Some(Fault::at_item(19, tensor, part, i)),
+        None => None,
+    }
+}
+
+// The block, each entry 0 where F19 holds of it, and its F19.
+#[tactic(auto, using(crate::proofs::Lists::map_of_views, crate::proofs::Lists::views))]
+fn block(
+    alloc: Global,
+    v: &Value,
+    tensor: u32,
+    part: u32,
+) -> Result<(Block, Option<Fault>), AllocError>
+    ensures made { IfOk result (λ r. r.0 ≡ block_of (view v.now)) }
+    ensures fault { IfOk result (λ r. r.1 ≡ entry_fault tensor part (view v.now)) }
 {
     let tuple = sector_numbers(alloc, first_items(v))?;
-    let entries = entries(alloc, second_items(v))?;
-    Ok(Block {
+    let (entries, bad) = entries(alloc, second_items(v))?;
+    let fault = at_entry(tensor, part, bad);
+    let block = Block {
         tuple: Tuple::new(tuple),
         entries,
-    })
+    };
+    Ok((block, fault))
 }
 
-/// The blocks of a list, each entry 0 where F19 holds of it.
-pub(crate) fn blocks(alloc: Global, list: &[Value]) -> Result<Vec<Block>, AllocError>
-    ensures { IfOk result (λ made. made.items ≡ map block_of (map view list.now)) }
+/// The blocks of a list, each entry 0 where F19 holds of it, and F19 over all blocks.
+#[tactic(auto, using(crate::proofs::Noted::or_assoc))]
+pub(crate) fn blocks(
+    alloc: Global,
+    list: &[Value],
+    tensor: u32,
+) -> Result<(Vec<Block>, Option<Fault>), AllocError>
+    ensures made { IfOk result (λ r. r.0.items ≡ map block_of (map view list.now)) }
+    ensures fault { IfOk result (λ r. r.1 ≡ first_of (entry_fault tensor) (map view list.now)) }
 {
     let mut made = Vec::new(alloc);
-    let mut rest = list;
-    while let [v, tail @ ..] = rest {
-        made.push(block(alloc, v)?)?;
-        rest = tail;
-    }
-    Ok(made)
-}
-
-fn first_bad_entry(list: &[Value]) -> Option<usize>
-    ensures found { result ≡ position_from (λ v. is_none (entry_of (view v))) 0 list.now }
-    ensures within { IfSome result (λ i. i < length list.now) }
-{
-    list.iter().position(|v| entry(v).is_none())
-}
-
-// F19 of one block.
-#[tactic(auto, using(crate::proofs::Lists::views))]
-fn check_block(v: &Value, tensor: u32, part: u32) -> Result<(), DocFault>
-    ensures { Reads result (entry_fault tensor part (view v.now)) (λ _. ⊤) }
-{
-    match first_bad_entry(second_items(v)) {
-        Some(i) => Err(DocFault::Bad(Fault::at_item(19, tensor, part, i))),
-        None => Ok(()),
-    }
-}
-
-/// F19 over all blocks.
-pub(crate) fn check_entries(list: &[Value], tensor: u32) -> Result<(), DocFault>
-    ensures { Reads result (first_of (entry_fault tensor) (map view list.now)) (λ _. ⊤) }
-{
+    let mut fault = None;
     let mut before: u32 = 0;
     let mut rest = list;
     while let [v, tail @ ..] = rest {
         let Some(place) = before.checked_add(1) else {
-            return Err(DocFault::Memory);
+            return Err(AllocError);
         };
-        check_block(v, tensor, place)?;
+        let (block, bad) = block(alloc, v, tensor, place)?;
+        made.push(block)?;
+        fault = fault.or(bad);
         before = place;
         rest = tail;
     }
-    Ok(())
+    Ok((made, fault))
 }
 
 // The fault of this code at the block, counted from 0. No document has as many as 2^32 blocks.

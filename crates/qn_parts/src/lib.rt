@@ -11,13 +11,12 @@ mod legs;
 pub mod parts;
 mod sectors;
 mod tensors;
-mod text;
 mod tree;
 mod writing;
+mod written;
 
 pub use documents::{AnyTensor, read_tensor};
 pub use fault::{DocFault, Fault};
-pub use text::{entries_value, entry_value, line};
 pub use tree::{flag_at, items, items_at, list, read_tree, whole_at};
 pub use writing::write_tensor;
 

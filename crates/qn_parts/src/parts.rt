@@ -8,6 +8,5 @@ pub use crate::groups::{factors, factors_of, group, is_group};
 pub use crate::legs::{dir, legs};
 pub use crate::sectors::{charge_in, is_charge, is_sectors, number, sectors};
 pub use crate::tensors::{are_entries, are_numbers, has_arrow, has_legs, is_tensor, tensor};
-pub use crate::writing::{
-    arrow_value, blocks_value, charge_value, group_value, legs_value, numbers_value,
-};
+pub use crate::writing::{write_arrow, write_blocks, write_charge, write_group, write_legs};
+pub use crate::written::{finished, write_count, write_entry, write_numbers};

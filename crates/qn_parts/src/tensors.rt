@@ -13,7 +13,7 @@ ghost use Rattle.qn_parts.specs.Entries.{is_entry, entry_of};
 ghost use Rattle.qn_parts.specs.Tree.{items, member_of};
 ghost use Rattle.qn_parts.specs.Tensors.{is_arrow, is_leg, are_legs, are_numbers, are_entries, is_block, are_blocks, is_tensor, arrow_of, leg_of, flux_of, sector_number, tuple_of, entry_or_zero, block_of, tensor_of, leg_fault, flux_fault, made_fault, parts_fault, legs_data, placed, entry_fault, tensor_fault, IsOfDocument};
 
-use crate::blocks::{blocks, check_entries, place};
+use crate::blocks::{blocks, place};
 use crate::entries::is_entry;
 use crate::forms::is_whole;
 use crate::legs::{flux, legs};
@@ -205,11 +205,12 @@ fn tensor_of<const K: usize>(
 {
     let legs = legs(alloc, items_at(v, "legs"), group, number)?;
     let flux = flux(v, group, number)?;
-    let list = items_at(v, "blocks");
-    let blocks = blocks(alloc, list)?;
+    let (blocks, bad) = blocks(alloc, items_at(v, "blocks"), number)?;
     let tensor = assembled(alloc, group, legs, flux, blocks, number)?;
-    check_entries(list, number)?;
-    Ok(tensor)
+    match bad {
+        Some(fault) => Err(DocFault::Bad(fault)),
+        None => Ok(tensor),
+    }
 }
 
 /// The tensor, or the first of its faults: F8; then leg by leg F9, F10, F11; then F12 to F19, each

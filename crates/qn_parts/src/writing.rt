@@ -1,141 +1,146 @@
-ghost use Rattle.std.specs.Prelude.{◌≡◌, ◌<◌, ◌≤◌, IfOk, List, ℤ, pos, map, filter, length, slice_index_or, codes, not, Some};
+//! The parts of tensors and tensors, written a token at a time.
+ghost use Rattle.std.specs.Prelude.{◌≡◌, ◌<◌, ◌≤◌, IfOk, OnOk, List, ℤ, pos, map, filter, length, slice_index_or, codes, not, Some};
 ghost use Rattle.std.specs.List.{list_any};
 ghost use Rattle.serde_json.specs.Data.{string};
-ghost use Rattle.serde_json.specs.View.{view};
+ghost use Rattle.qn_charge.specs.declared.factor.Factor.TheVariants.{U1, Zn};
 ghost use Rattle.qn_block.specs.Blocked.{is_filled, is_zero};
+ghost use Rattle.qn_parts.specs.Appended.{Appends};
 ghost use Rattle.qn_parts.specs.Tree.{tree_of};
 ghost use Rattle.qn_parts.specs.TensorTexts.{list_data, count_data, whole_data, factor_data, charge_data, sector_data, arrow_word, leg_data, block_data, tensor_data, tensor_text};
 
-use crate::text::{entries_value, line};
+use crate::written::{finished, write_count, write_entries, write_whole};
+use json::Writer;
 use qn_block::{Block, BlockTensor};
 use qn_charge::{Charge, Factor, Group};
 use qn_gauss::Gauss;
 use qn_index::{Dir, Leg, Sector};
-use serde_json::{Value, json};
 use std::alloc::{AllocError, Global};
 
-fn factor_value(alloc: Global, factor: Factor) -> Result<Value, AllocError>
-    ensures { IfOk result (λ v. view v ≡ factor_data factor) }
+fn write_unitary(out: &mut Writer, fermion: bool) -> Result<(), AllocError>
+    ensures { OnOk result (Appends (factor_data (U1 fermion)) out.old out.new) }
+{
+    out.begin_object()?;
+    out.key("fermion")?;
+    out.boolean(fermion)?;
+    out.key("kind")?;
+    out.string("u1")?;
+    out.end_object()
+}
+
+fn write_cyclic(out: &mut Writer, n: u32, fermion: bool) -> Result<(), AllocError>
+    ensures { OnOk result (Appends (factor_data (Zn n fermion)) out.old out.new) }
+{
+    out.begin_object()?;
+    out.key("fermion")?;
+    out.boolean(fermion)?;
+    out.key("kind")?;
+    out.string("zn")?;
+    out.key("n")?;
+    write_count(out, u64::from(n))?;
+    out.end_object()
+}
+
+fn write_factor(out: &mut Writer, factor: Factor) -> Result<(), AllocError>
+    ensures { OnOk result (Appends (factor_data factor) out.old out.new) }
 {
     match factor {
-        Factor::U1 { fermion } => json!(in alloc; {"fermion": fermion, "kind": "u1"}),
-        Factor::Zn { n, fermion } => json!(in alloc; {"fermion": fermion, "kind": "zn", "n": n}),
+        Factor::U1 { fermion } => write_unitary(out, fermion),
+        Factor::Zn { n, fermion } => write_cyclic(out, n, fermion),
     }
 }
 
 /// A group: the list of its factors.
-pub fn group_value<const K: usize>(alloc: Global, group: &Group<K>) -> Result<Value, AllocError>
-    ensures { IfOk result (λ v. view v ≡ list_data (map factor_data group.now)) }
+pub fn write_group<const K: usize>(out: &mut Writer, group: &Group<K>) -> Result<(), AllocError>
+    ensures { OnOk result (Appends (list_data (map factor_data group.now)) out.old out.new) }
 {
     group.known();
-    let mut list = Vec::new(alloc);
+    out.begin_array()?;
     for i in 0..K {
-        list.push(factor_value(alloc, group.factor(i))?)?;
+        write_factor(out, group.factor(i))?;
     }
-    Ok(Value::Array(list))
-}
-
-/// A list of whole numbers.
-pub fn numbers_value(alloc: Global, numbers: &[i64]) -> Result<Value, AllocError>
-    ensures { IfOk result (λ v. view v ≡ list_data (map whole_data numbers.now)) }
-{
-    let mut list = Vec::new(alloc);
-    let mut rest = numbers;
-    while let [number, tail @ ..] = rest {
-        list.push(Value::from(*number))?;
-        rest = tail;
-    }
-    Ok(Value::Array(list))
-}
-
-fn part_value<const K: usize>(charge: &Charge<K>, i: usize) -> Value
-    requires { i < K }
-    ensures { view result ≡ whole_data (slice_index_or charge.now i (pos 0)) }
-{
-    Value::from(charge.part(i))
+    out.end_array()
 }
 
 /// A charge or flux: its parts.
-pub fn charge_value<const K: usize>(alloc: Global, charge: &Charge<K>) -> Result<Value, AllocError>
-    ensures { IfOk result (λ v. view v ≡ charge_data charge.now) }
+pub fn write_charge<const K: usize>(out: &mut Writer, charge: &Charge<K>) -> Result<(), AllocError>
+    ensures { OnOk result (Appends (charge_data charge.now) out.old out.new) }
 {
     charge.known();
-    let mut list = Vec::new(alloc);
+    out.begin_array()?;
     for i in 0..K {
-        list.push(part_value(charge, i))?;
+        write_whole(out, charge.part(i))?;
     }
-    Ok(Value::Array(list))
+    out.end_array()
 }
 
-fn sector_value<const K: usize>(alloc: Global, sector: &Sector<K>) -> Result<Value, AllocError>
-    ensures { IfOk result (λ v. view v ≡ sector_data sector.now) }
+fn write_sector<const K: usize>(out: &mut Writer, sector: &Sector<K>) -> Result<(), AllocError>
+    ensures { OnOk result (Appends (sector_data sector.now) out.old out.new) }
 {
-    let charge = charge_value(alloc, &sector.charge)?;
-    let dim = Value::from(sector.dim);
-    Ok(Value::Array(vec![in alloc; charge, dim]?))
+    out.begin_array()?;
+    write_charge(out, &sector.charge)?;
+    write_count(out, u64::from(sector.dim))?;
+    out.end_array()
 }
 
-fn sectors_value<const K: usize>(alloc: Global, sectors: &[Sector<K>]) -> Result<Value, AllocError>
-    ensures { IfOk result (λ v. view v ≡ list_data (map sector_data sectors.now)) }
+fn write_sectors<const K: usize>(out: &mut Writer, sectors: &[Sector<K>]) -> Result<(), AllocError>
+    ensures { OnOk result (Appends (list_data (map sector_data sectors.now)) out.old out.new) }
 {
-    let mut list = Vec::new(alloc);
-    let mut rest = sectors;
-    while let [sector, tail @ ..] = rest {
-        list.push(sector_value(alloc, sector)?)?;
-        rest = tail;
+    out.begin_array()?;
+    for sector in sectors {
+        write_sector(out, sector)?;
     }
-    Ok(Value::Array(list))
+    out.end_array()
 }
 
 /// An arrow, `"out"` or `"in"`.
-pub fn arrow_value(alloc: Global, dir: Dir) -> Result<Value, AllocError>
-    ensures { IfOk result (λ v. view v ≡ string (arrow_word dir)) }
+pub fn write_arrow(out: &mut Writer, dir: Dir) -> Result<(), AllocError>
+    ensures { OnOk result (Appends (string (arrow_word dir)) out.old out.new) }
 {
     match dir {
-        Dir::Out => Value::try_from_str(alloc, "out"),
-        Dir::In => Value::try_from_str(alloc, "in"),
+        Dir::Out => out.string("out"),
+        Dir::In => out.string("in"),
     }
 }
 
-fn leg_value<const K: usize>(alloc: Global, leg: &Leg<K>) -> Result<Value, AllocError>
-    ensures { IfOk result (λ v. view v ≡ leg_data leg.now) }
+fn write_leg<const K: usize>(out: &mut Writer, leg: &Leg<K>) -> Result<(), AllocError>
+    ensures { OnOk result (Appends (leg_data leg.now) out.old out.new) }
 {
-    let dir = arrow_value(alloc, leg.dir())?;
-    let sectors = sectors_value(alloc, leg.sectors())?;
-    json!(in alloc; {"dir": dir, "sectors": sectors})
+    out.begin_object()?;
+    out.key("dir")?;
+    write_arrow(out, leg.dir())?;
+    out.key("sectors")?;
+    write_sectors(out, leg.sectors())?;
+    out.end_object()
 }
 
 /// A list of legs.
-pub fn legs_value<const K: usize>(alloc: Global, legs: &[Leg<K>]) -> Result<Value, AllocError>
-    ensures { IfOk result (λ v. view v ≡ list_data (map leg_data legs.now)) }
+pub fn write_legs<const K: usize>(out: &mut Writer, legs: &[Leg<K>]) -> Result<(), AllocError>
+    ensures { OnOk result (Appends (list_data (map leg_data legs.now)) out.old out.new) }
 {
-    let mut list = Vec::new(alloc);
-    let mut rest = legs;
-    while let [leg, tail @ ..] = rest {
-        list.push(leg_value(alloc, leg)?)?;
-        rest = tail;
+    out.begin_array()?;
+    for leg in legs {
+        write_leg(out, leg)?;
     }
-    Ok(Value::Array(list))
+    out.end_array()
 }
 
-fn tuple_value(alloc: Global, tuple: &[u32]) -> Result<Value, AllocError>
-    ensures { IfOk result (λ v. view v ≡ list_data (map count_data tuple.now)) }
+fn write_tuple(out: &mut Writer, tuple: &[u32]) -> Result<(), AllocError>
+    ensures { OnOk result (Appends (list_data (map count_data tuple.now)) out.old out.new) }
 {
-    let mut list = Vec::new(alloc);
-    let mut rest = tuple;
-    while let [number, tail @ ..] = rest {
-        list.push(Value::from(*number))?;
-        rest = tail;
+    out.begin_array()?;
+    for number in tuple {
+        write_count(out, u64::from(*number))?;
     }
-    Ok(Value::Array(list))
+    out.end_array()
 }
 
-fn block_value(alloc: Global, block: &Block) -> Result<Value, AllocError>
-    ensures { IfOk result (λ v. view v ≡ block_data block.now) }
+fn write_block(out: &mut Writer, block: &Block) -> Result<(), AllocError>
+    ensures { OnOk result (Appends (block_data block.now) out.old out.new) }
 {
-    let tuple = tuple_value(alloc, block.tuple())?;
-    let entries = entries_value(alloc, block.entries())?;
-    Ok(Value::Array(vec![in alloc; tuple, entries]?))
+    out.begin_array()?;
+    write_tuple(out, block.tuple())?;
+    write_entries(out, block.entries())?;
+    out.end_array()
 }
 
 fn is_not_zero(entry: &Gauss) -> bool
@@ -152,33 +157,35 @@ fn is_filled(entries: &[Gauss]) -> bool
 }
 
 /// The blocks that are not all zeros.
-pub fn blocks_value(alloc: Global, blocks: &[Block]) -> Result<Value, AllocError>
-    ensures { IfOk result (λ v. view v ≡ list_data (map block_data (filter is_filled blocks.now))) }
+pub fn write_blocks(out: &mut Writer, blocks: &[Block]) -> Result<(), AllocError>
+    ensures { OnOk result (Appends (list_data (map block_data (filter is_filled blocks.now))) out.old out.new) }
 {
-    let mut list = Vec::new(alloc);
-    let mut rest = blocks;
-    while let [block, tail @ ..] = rest {
+    out.begin_array()?;
+    for block in blocks {
         if is_filled(block.entries()) {
-            list.push(block_value(alloc, block)?)?;
+            write_block(out, block)?;
         }
-        rest = tail;
     }
-    Ok(Value::Array(list))
+    out.end_array()
 }
 
-fn tensor_value<const K: usize>(alloc: Global, t: &BlockTensor<K>) -> Result<Value, AllocError>
-    ensures { IfOk result (λ v. view v ≡ tensor_data t.now) }
+fn write_parts<const K: usize>(out: &mut Writer, t: &BlockTensor<K>) -> Result<(), AllocError>
+    ensures { OnOk result (Appends (tensor_data t.now) out.old out.new) }
 {
-    let blocks = blocks_value(alloc, t.blocks())?;
-    let flux = charge_value(alloc, t.flux())?;
-    let group = group_value(alloc, t.group())?;
-    let legs = legs_value(alloc, t.legs())?;
-    json!(in alloc; {"blocks": blocks, "flux": flux, "group": group, "legs": legs})
+    out.begin_object()?;
+    out.key("blocks")?;
+    write_blocks(out, t.blocks())?;
+    out.key("flux")?;
+    write_charge(out, t.flux())?;
+    out.key("group")?;
+    write_group(out, t.group())?;
+    out.key("legs")?;
+    write_legs(out, t.legs())?;
+    out.end_object()
 }
 
 /// The text of a tensor: one line of compact JSON with its newline. Blocks that are all zeros are
 /// left out.
-#[tactic(auto, using(crate::proofs::Floats::no_float))]
 pub fn write_tensor<const K: usize>(
     alloc: Global,
     t: &BlockTensor<K>,
@@ -187,7 +194,8 @@ pub fn write_tensor<const K: usize>(
     // The text is read as the tree that it was written from.
     ensures tree { IfOk result (λ bytes. tree_of bytes.items ≡ Some (tensor_data t.now)) }
 {
-    let value = tensor_value(alloc, t)?;
-    let text = line(alloc, &value)?;
+    let mut out = Writer::new(Vec::new(alloc));
+    write_parts(&mut out, t)?;
+    let text = finished(out)?;
     Ok(text)
 }

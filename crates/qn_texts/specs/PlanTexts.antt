@@ -1,5 +1,5 @@
 -- The text of a plan: compact JSON, the keys of each object ascending.
-use Rattle.std.specs.Prelude.{ℕ, ℤ, List, [], ◌∷◌, map, codes}
+use Rattle.std.specs.Prelude.{ℕ, List, [], ◌∷◌, map, codes}
 use Rattle.std.specs.List.{sum_by}
 use Rattle.serde_json.specs.Data.{Data, string, object, member, no_members}
 use Rattle.qn_net.specs.Steps.{Kind}

@@ -1,56 +1,76 @@
-ghost use Rattle.std.specs.Prelude.{◌≡◌, ◌≤◌, ◌<◌, ◌^◌, ◌*◌, ◌+◌, IfOk, map, length, codes, false};
+ghost use Rattle.std.specs.Prelude.{◌≡◌, ◌≤◌, ◌<◌, ◌^◌, ◌*◌, ◌+◌, IfOk, OnOk, [], ◌∷◌, map, length, codes};
 ghost use Rattle.std.specs.List.{All, sum_by};
 ghost use Rattle.serde_json.specs.Data.{string};
-ghost use Rattle.serde_json.specs.View.{view};
 ghost use Rattle.qn_net.specs.Steps.{Kind};
 ghost use Rattle.qn_plan.specs.Planned.{kind_value};
+ghost use Rattle.qn_parts.specs.Appended.{Appends};
 ghost use Rattle.qn_parts.specs.TensorTexts.{list_data, count_data};
 ghost use Rattle.qn_texts.specs.PlanTexts.{kind_word, numbers_of, step_data, plan_data, plan_text};
 
-use qn_parts::line;
-use qn_parts::parts::numbers_value;
+use json::Writer;
+use qn_parts::parts::{finished, write_count, write_numbers};
 use qn_plan::{Step, StepKind};
-use serde_json::{Value, json};
 use std::alloc::{AllocError, Global};
 
-fn kind_text(alloc: Global, kind: StepKind) -> Result<Value, AllocError>
-    ensures { IfOk result (λ v. view v ≡ string (kind_word (kind_value kind))) }
+fn write_kind(out: &mut Writer, kind: StepKind) -> Result<(), AllocError>
+    ensures { OnOk result (Appends (string (kind_word (kind_value kind))) out.old out.new) }
 {
     match kind {
-        StepKind::Pair => Value::try_from_str(alloc, "pair"),
-        StepKind::Trace => Value::try_from_str(alloc, "trace"),
-        StepKind::Fuse => Value::try_from_str(alloc, "fuse"),
+        StepKind::Pair => out.string("pair"),
+        StepKind::Trace => out.string("trace"),
+        StepKind::Fuse => out.string("fuse"),
     }
 }
 
-fn numbers(alloc: Global, step: &Step) -> Result<Value, AllocError>
-    ensures { IfOk result (λ v. view v ≡ list_data (map count_data (numbers_of step.now.kind step.now.first step.now.second))) }
+fn write_one(out: &mut Writer, first: u32) -> Result<(), AllocError>
+    ensures { OnOk result (Appends (list_data (map count_data (first ∷ []))) out.old out.new) }
+{
+    out.begin_array()?;
+    write_count(out, u64::from(first))?;
+    out.end_array()
+}
+
+fn write_two(out: &mut Writer, first: u32, second: u32) -> Result<(), AllocError>
+    ensures { OnOk result (Appends (list_data (map count_data (first ∷ second ∷ []))) out.old out.new) }
+{
+    out.begin_array()?;
+    write_count(out, u64::from(first))?;
+    write_count(out, u64::from(second))?;
+    out.end_array()
+}
+
+fn write_tensors(out: &mut Writer, step: &Step) -> Result<(), AllocError>
+    ensures { OnOk result (Appends (list_data (map count_data (numbers_of step.now.kind step.now.first step.now.second))) out.old out.new) }
 {
     match step.kind {
-        StepKind::Trace => json!(in alloc; [step.first]),
-        _ => json!(in alloc; [step.first, step.second]),
+        StepKind::Trace => write_one(out, step.first),
+        _ => write_two(out, step.first, step.second),
     }
 }
 
-fn step_value(alloc: Global, step: &Step) -> Result<Value, AllocError>
-    ensures { IfOk result (λ v. view v ≡ step_data step.now) }
+fn write_step(out: &mut Writer, step: &Step) -> Result<(), AllocError>
+    ensures { OnOk result (Appends (step_data step.now) out.old out.new) }
 {
-    let kind = kind_text(alloc, step.kind)?;
-    let labels = numbers_value(alloc, &step.labels)?;
-    let of = numbers(alloc, step)?;
-    json!(in alloc; {"cost": step.cost, "kind": kind, "labels": labels, "of": of})
+    out.begin_object()?;
+    out.key("cost")?;
+    write_count(out, step.cost)?;
+    out.key("kind")?;
+    write_kind(out, step.kind)?;
+    out.key("labels")?;
+    write_numbers(out, &step.labels)?;
+    out.key("of")?;
+    write_tensors(out, step)?;
+    out.end_object()
 }
 
-fn steps_value(alloc: Global, steps: &[Step]) -> Result<Value, AllocError>
-    ensures { IfOk result (λ v. view v ≡ list_data (map step_data steps.now)) }
+fn write_steps(out: &mut Writer, steps: &[Step]) -> Result<(), AllocError>
+    ensures { OnOk result (Appends (list_data (map step_data steps.now)) out.old out.new) }
 {
-    let mut list = Vec::new(alloc);
-    let mut rest = steps;
-    while let [step, tail @ ..] = rest {
-        list.push(step_value(alloc, step)?)?;
-        rest = tail;
+    out.begin_array()?;
+    for step in steps {
+        write_step(out, step)?;
     }
-    Ok(Value::Array(list))
+    out.end_array()
 }
 
 /// What all steps cost together.
@@ -67,23 +87,27 @@ fn total(steps: &[Step]) -> u64
     total
 }
 
-fn plan_value(alloc: Global, steps: &[Step]) -> Result<Value, AllocError>
+fn write_parts(out: &mut Writer, steps: &[Step]) -> Result<(), AllocError>
     requires { sum_by (λ s. s.cost) steps.now < 2 ^ 64 }
-    ensures { IfOk result (λ v. view v ≡ plan_data steps.now) }
+    ensures { OnOk result (Appends (plan_data steps.now) out.old out.new) }
 {
-    let cost = total(steps);
-    let list = steps_value(alloc, steps)?;
-    json!(in alloc; {"cost": cost, "steps": list})
+    out.begin_object()?;
+    out.key("cost")?;
+    write_count(out, total(steps))?;
+    out.key("steps")?;
+    write_steps(out, steps)?;
+    out.end_object()
 }
 
 /// The text of a plan.
 ///
 /// The only error is want of memory.
-#[tactic(auto, using(crate::proofs::Floats::no_float))]
 pub fn write_plan(alloc: Global, steps: &[Step]) -> Result<Vec<u8>, AllocError>
     requires { sum_by (λ s. s.cost) steps.now < 2 ^ 64 }
     ensures { IfOk result (λ b. b.items ≡ plan_text steps.now) }
 {
-    let tree = plan_value(alloc, steps)?;
-    line(alloc, &tree)
+    let mut out = Writer::new(Vec::new(alloc));
+    write_parts(&mut out, steps)?;
+    let text = finished(out)?;
+    Ok(text)
 }

@@ -1,10 +1,10 @@
-ghost use Rattle.std.specs.Prelude.{◌≡◌, IfOk};
-ghost use Rattle.serde_json.specs.View.{view};
+ghost use Rattle.std.specs.Prelude.{◌≡◌, IfOk, OnOk};
+ghost use Rattle.qn_parts.specs.Appended.{Appends};
 ghost use Rattle.qn_texts.specs.SummaryTexts.{SummaryValue, summary_data, summary_text};
 
+use json::Writer;
 use qn_gauss::Gauss;
-use qn_parts::{entry_value, line};
-use serde_json::{Value, json};
+use qn_parts::parts::{finished, write_count, write_entry};
 use std::alloc::{AllocError, Global};
 use std::marker::Model;
 
@@ -27,16 +27,19 @@ impl Model for Summary {
     ghost view = { λ s. record { sites = s.sites; scalar = s.scalar; steps = s.steps; cost = s.cost } };
 }
 
-fn summary_value(alloc: Global, summary: &Summary) -> Result<Value, AllocError>
-    ensures { IfOk result (λ v. view v ≡ summary_data summary.now) }
+fn write_parts(out: &mut Writer, summary: &Summary) -> Result<(), AllocError>
+    ensures { OnOk result (Appends (summary_data summary.now) out.old out.new) }
 {
-    let scalar = entry_value(alloc, summary.scalar)?;
-    json!(in alloc; {
-        "cost": summary.cost,
-        "scalar": scalar,
-        "sites": summary.sites,
-        "steps": summary.steps,
-    })
+    out.begin_object()?;
+    out.key("cost")?;
+    write_count(out, summary.cost)?;
+    out.key("scalar")?;
+    write_entry(out, summary.scalar)?;
+    out.key("sites")?;
+    write_count(out, u64::from(summary.sites))?;
+    out.key("steps")?;
+    write_count(out, u64::from(summary.steps))?;
+    out.end_object()
 }
 
 /// The text of a summary: one line of compact JSON with its newline.
@@ -45,6 +48,8 @@ fn summary_value(alloc: Global, summary: &Summary) -> Result<Value, AllocError>
 pub fn write_summary(alloc: Global, summary: &Summary) -> Result<Vec<u8>, AllocError>
     ensures { IfOk result (λ b. b.items ≡ summary_text summary.now) }
 {
-    let tree = summary_value(alloc, summary)?;
-    line(alloc, &tree)
+    let mut out = Writer::new(Vec::new(alloc));
+    write_parts(&mut out, summary)?;
+    let text = finished(out)?;
+    Ok(text)
 }

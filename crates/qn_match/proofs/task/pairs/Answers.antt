@@ -1,7 +1,7 @@
 use Rattle.std.proofs.Common.{arith, ◌≡◌, ◌∙◌, refl, lit<}
 use Rattle.qn_charge.specs.Charges.{sum_charge}
 use Rattle.qn_match.specs.Pairs.{joined}
-use Rattle.qn_match.proofs.Conditions.{AreAdded, are_added, AreListed, are_listed, are_long}
+use Rattle.qn_match.proofs.Conditions.{AreAdded, are_added, AreListed, are_listed, are_long, are_ascending}
 use Rattle.qn_match.proofs.task.pairs.Goals as goal
 
 pub add-flux-requires : goal.add-flux-requires
@@ -41,3 +41,6 @@ tasks_of-requires-clause-seconds g c = λ k d lt m p in_range.
     let f = are_long c.args.b.now c.blocks-5.result.now c.args.b.now.legs c.blocks-5.ensures refl c.known-2.ensures in
     let long = f.counts k d lt in
     omega (arith, long, c.requires.pair.shapes.legs.second m p in_range)
+
+pub tasks_of-requires-clause-ascending : goal.tasks_of-requires-clause-ascending
+tasks_of-requires-clause-ascending g c = are_ascending c.group-2.result.now c.deref.result.now c.add-flux.result c.deref-4.result.now (c.deref-4.ensures.value ∙ c.in_ok-tuples.ensures)

@@ -4,7 +4,7 @@ use Rattle.qn_charge.specs.Charges.{sum_charge}
 use Rattle.qn_index.specs.Legs.{LegValue}
 use Rattle.qn_value.specs.Local.{no_leg, picked, IsCouple}
 use Rattle.qn_strides.specs.Strides.{goal_places, open_places}
-use Rattle.qn_pair.specs.Sources.{couples_of, IsFrame}
+use Rattle.qn_kernel.specs.Sources.{couples_of, IsFrame}
 use Rattle.qn_pair.specs.Steps.{result_legs, result_flux}
 use Rattle.qn_pair.proofs.Called.{framed, are_added, blocked_result, called}
 use Rattle.qn_pair.proofs.contraction.contract.Goals as goal

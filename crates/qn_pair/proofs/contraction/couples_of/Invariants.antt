@@ -1,5 +1,5 @@
 use Rattle.std.proofs.Common.{◌≡◌, take}
-use Rattle.qn_pair.specs.Sources.{couples_of}
+use Rattle.qn_kernel.specs.Sources.{couples_of}
 use Rattle.qn_pair.proofs.contraction.couples_of.Given as goal
 
 abbrev pub invariant-loop-pair : goal.invariant-loop-pair

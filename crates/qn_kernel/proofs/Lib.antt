@@ -1,0 +1,4 @@
+pub mod Axes
+pub mod Both
+pub mod Frames
+mod Zeros
