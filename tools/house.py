@@ -1,8 +1,10 @@
 """What a script can see of the house, in seconds: `tools/house` runs it, and says what is refused.
 
 Each finding is a line 'KIND: TEXT'. The same line in tools/house.exceptions lets it through; a line there that nothing
-needs any more is refused too. Of a lemma that stands twice all copies but one have to be let through. Lemmas are compared up to the names of their variables. A lemma is cited where its own file
-uses it outside its own lines, where another file imports it or names it behind its module, and where code names its path.
+needs any more is refused too. Of a lemma that stands twice, all copies but one have to be let through.
+
+Lemmas are compared up to the names of their variables. A lemma is cited where its file uses it outside its own lines,
+where another file imports it or names it behind its module, and where code names its path.
 """
 
 import collections
@@ -155,9 +157,11 @@ def counters(texts):
     tests = set()
     for path, text in texts.items():
         for name in re.findall(r"#\[cfg\(test\)\]\s*mod (\w+);", text):
-            tests.add(f"{path.rsplit('/', 1)[0]}/{name}.rt")
+            tests.add(f"{path.rsplit('/', 1)[0]}/{name}")
     for path, text in texts.items():
-        if not path.endswith(".rt") or path in tests or path.endswith("/main.rt"):
+        if not path.endswith(".rt") or path.endswith("/main.rt"):
+            continue
+        if any(path == f"{test}.rt" or path.startswith(f"{test}/") for test in tests):
             continue
         if re.search(r"\bSteps(::<\w+>)?::new\(|\bBlank::new\(", re.sub(r"//.*", "", text)):
             yield f"counter made: {path}"
