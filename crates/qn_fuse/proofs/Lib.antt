@@ -1,0 +1,15 @@
+pub mod Flat
+pub mod Joined
+pub mod Widened
+pub mod Stored
+pub mod Moved
+pub mod Fluxes
+pub mod Alike
+pub mod Widths
+pub mod Loops
+pub mod Starts
+pub mod Parts
+pub mod TableSigns
+pub mod TableSums
+pub mod TableValues
+pub mod Contracted
