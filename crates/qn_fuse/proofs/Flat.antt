@@ -28,10 +28,6 @@ pub map_same : {A B : Type 0} (f g : A → B) (xs : List A) → ((x : A) → f x
 map_same f g [] h = refl
 map_same f g (x ∷ xs) h = ap₂ ◌∷◌ (h x) (map_same f g xs h)
 
-pub length-upward : (i n : ℕ) → length (upward i n) ≡ n
-length-upward i zero = refl
-length-upward i (suc n) = ap suc (length-upward (i + 1) n)
-
 pub map_upward : {A : Type 0} (f g : ℕ → A) (i n : ℕ) → ((k : ℕ) → i ≤ k → k < i + n → f k ≡ g k) → map f (upward i n) ≡ map g (upward i n)
 map_upward f g i zero h = refl
 map_upward f g i (suc n) h = ap₂ ◌∷◌ (h i (omega arith) (omega arith)) (map_upward f g (i + 1) n (λ k l u. h k (omega arith) (omega arith)))
