@@ -51,8 +51,8 @@ def made(short):
     yield 'no_command', ['solve'], b'{}'
     yield 'nothing_twice', ['contract', '--workers', '2', '--workers'], b'{}'
     if not short:
-        yield 'generated', ['gen', '12'], b''
-        yield 'generated_by_two', ['gen', '12', '--workers', '2'], b''
+        yield 'generated', ['gen', '25'], b''
+        yield 'generated_by_two', ['gen', '25', '--workers', '2'], b''
 
 
 def leg(arrow, sectors):
@@ -71,13 +71,13 @@ def filled(head, unit, tail, size=LIMIT):
     yield tail + b' ' * (size - len(head) - len(tail) - often * len(unit))
 
 
-def distinct_keys():
+def distinct_keys(size, step):
+    """Keys that are multiples of an odd number below 2^32, so all different: ascending for 1, scattered for others."""
     yield b'{"k":0'
-    size, number = 6, 0
-    while size < LIMIT - 100000:
-        piece = b''.join(b',"%x":0' % key for key in range(number, number + 5000))
-        number, size = number + 5000, size + len(piece)
-        yield piece
+    often = (size - 100) // len(b',"00000000":0')
+    for first in range(0, often, 5000):
+        keys = range(first, min(first + 5000, often))
+        yield b''.join(b',"%08x":0' % (key * step % 2 ** 32) for key in keys)
     yield b'}'
 
 
@@ -110,7 +110,8 @@ def hostile(short=False):
     yield 'bytes 255', ['contract'], long(b'', b'\xff'), 'F2'
     yield 'bytes 0', ['contract'], long(b'', b'\0'), 'F2'
     yield 'one key', ['contract'], long(b'{"', b'a', b'":0}'), 'F3'
-    yield 'keys', ['contract'], distinct_keys() if not short else long(b'{"b":0', b',"a":0', b'}'), 'F3'
+    yield 'keys in order', ['contract'], distinct_keys(size, 1), 'F3'
+    yield 'keys in no order', ['contract'], distinct_keys(size, 2654435769), 'F3'
     yield 'repeated keys', ['contract'], long(b'{"b":0', b',"a":0', b'}'), 'F3'
     yield 'repeated groups', ['contract'], long(b'{"group":[]', b',"group":[]', b'}'), 'F3'
     yield 'repeated keys in a document', ['contract'], long(SCALAR, b',"flux":[]', b'}'), 'done'
@@ -148,8 +149,9 @@ def counts(long, size):
                                         b',{"legs":[],"flux":[],"blocks":[],"labels":[]}', b']}'), 'F7'
     yield 'legs', ['plan'], long(b'{"group":[],"tensors":[{"labels":[],"flux":[],"blocks":[],"legs":['
                                  b'{"dir":"in","sectors":[]}', b',{"dir":"in","sectors":[]}', tail), 'F8'
-    yield 'sectors', ['plan'], long(b'{"group":[],"tensors":[{"labels":[],"flux":[],"blocks":[],"legs":['
-                                    b'{"dir":"in","sectors":[[[],1]', b',[[],1]', b']}' + tail), 'F11'
+    yield ('sectors', ['plan'], long(b'{"group":[],"tensors":[{"labels":[],"flux":[],"blocks":[],"legs":['
+                                    b'{"dir":"in","sectors":[[[],1]', b',[[],1]', b']}' + tail),
+           'F10' if size > 9 * 2 ** 20 else 'F11')
     yield 'labels', ['plan'], long(tensor % (b'', b'', b'1'), b',1', tail), 'F20'
     yield 'blocks', ['plan'], long(b'{"group":[],"tensors":[{"legs":[],"flux":[],"labels":[],"blocks":[[[],[1]]',
                                    b',[[],[1]]', tail), 'F17'

@@ -19,6 +19,7 @@ NAMED = {0: re.compile(rb''), 2: re.compile(rb'qntn: usage word \d+\n'), 7: re.c
          4: re.compile(rb'qntn: passed step \d+ at \[[0-9,]*\] offset \d+\n'),
          5: re.compile(rb'qntn: read fault\n'), 6: re.compile(rb'qntn: write fault\n')}
 SECONDS = 120
+MANY = 20000  # of so many allocations and more only every fifth fails
 
 
 def build(folder):
@@ -120,9 +121,9 @@ WRITE_ERRORS = [errno.EIO, errno.EINTR, errno.EAGAIN, errno.ENOSPC, errno.EPIPE,
 
 
 def jobs(plain, size, step=1):
-    """The jobs for one document as (kind, faults): each call in turn; every `step`th where there are many."""
+    """The jobs for one document as (kind, faults): each call in turn; or every `step`th allocation and byte."""
     count = plain.counts
-    for place in range(1, count['allocations'] + 1, step):
+    for place in range(1, count['allocations'] + 1, step * 5 if count['allocations'] > MANY else step):
         yield 'allocation fails once', dict(allocation_at=place)
         yield 'allocations fail from there on', dict(allocation_at=place, allocation_on=ALWAYS)
     for seed in range(0, 200, step):
