@@ -277,7 +277,8 @@ def sums(short):
     count = 100 if short else 2000
     ways = {'creators and annihilators': ['Cdag', 'C'] * 16, 'numbers': ['N'] * 32}
     for name, names in ways.items():
-        yield '%d terms of 32 %s on 64 sites' % (count, name), ['mpo'], document([term(names) for _ in range(count)]), None
+        terms = [term(names) for _ in range(count)]
+        yield '%d terms of 32 %s on 64 sites' % (count, name), ['mpo'], document(terms), None
     strings = [{'coef': 1, 'ops': [[1 + k % 64, 'N' if k % 2 else 'I'] for k in range(32)]}] * count
     yield '%d equal terms of 32 operators on 64 sites' % count, ['mpo'], document(strings), None
     one = [{'coef': 1, 'ops': [[1, 'N']] * 32}] * count
@@ -296,13 +297,12 @@ def greatest():
     yield '2^20 blocks', ['contract'], blocks(start + head), 'done'
     square = [leg('out', [[[0], 2048]]), leg('in', [[[0], 2048]])]
     head = json.dumps({'legs': square, 'flux': [0], 'labels': [-1, -2]}).encode()[:-1]
-    yield '2^22 entries', ['contract'], [start, head, b',"blocks":[[[0,0],[1', b',-1' * (2 ** 22 - 1), b']]]}]}'], 'done'
+    data = b',-1' * (2 ** 22 - 1)
+    yield '2^22 entries', ['contract'], [start, head, b',"blocks":[[[0,0],[1', data, b']]]}]}'], 'done'
     turned = head.replace(b'[-1, -2]', b'[-2, -1]')
-    yield '2^22 entries, legs turned', ['contract'], [start, turned, b',"blocks":[[[0,0],[1', b',-1' * (2 ** 22 - 1),
-                                                                      b']]]}]}'], 'done'
+    yield '2^22 entries, legs turned', ['contract'], [start, turned, b',"blocks":[[[0,0],[1', data, b']]]}]}'], 'done'
     looped = head.replace(b'[-1, -2]', b'[1, 1]')
-    yield 'a trace over 2^22 entries', ['contract'], [start, looped, b',"blocks":[[[0,0],[1', b',1' * (2 ** 22 - 1),
-                                                                       b']]]}]}'], 'done'
+    yield 'a trace over 2^22 entries', ['contract'], [start, looped, b',"blocks":[[[0,0],[1', data, b']]]}]}'], 'done'
 
 
 def blocks(head):

@@ -63,7 +63,8 @@ static uint64_t drawn(uint64_t number) {
 static int64_t next(int64_t *count) { return __atomic_add_fetch(count, 1, __ATOMIC_SEQ_CST); }
 
 static int strikes(int64_t number, int64_t at, int64_t on) {
-    int hit = at && (number == at || (on == ALWAYS && number >= at) || (on > ALWAYS && number >= at && number < at + on));
+    int64_t last = on == ALWAYS ? INT64_MAX : on > ALWAYS ? at + on - 1 : at;
+    int hit = at && number >= at && number <= last;
     if (hit) next(&counts->faults);
     return hit;
 }
@@ -76,9 +77,11 @@ static int refused(void) {
         if (x % 32 == 0) usleep((x >> 8) % job.delay + 1);
         else if (x % 4 == 0) sched_yield();
     }
-    if (job.allocation_chance && drawn(number) % job.allocation_chance == 0) { next(&counts->faults); errno = ENOMEM; return 1; }
-    if (strikes(number, job.allocation_at, job.allocation_on)) { errno = ENOMEM; return 1; }
-    return 0;
+    int unlucky = job.allocation_chance && drawn(number) % job.allocation_chance == 0;
+    if (unlucky) next(&counts->faults);
+    if (!unlucky && !strikes(number, job.allocation_at, job.allocation_on)) return 0;
+    errno = ENOMEM;
+    return 1;
 }
 
 void *malloc(size_t size) { return refused() ? NULL : __libc_malloc(size); }
@@ -112,7 +115,8 @@ ssize_t read(int from, void *bytes, size_t size) {
         return job.read_errno ? -1 : 0;
     }
     ssize_t got = syscall(SYS_read, from, bytes, fewer(size, job.read_most, number));
-    if (job.change_at > place && job.change_at <= place + got) ((char *)bytes)[job.change_at - place - 1] = job.change_to;
+    if (job.change_at > place && job.change_at <= place + got)
+        ((char *)bytes)[job.change_at - place - 1] = job.change_to;
     if (got > 0) place += got;
     return got;
 }
@@ -130,8 +134,8 @@ ssize_t write(int to, const void *bytes, size_t size) {
 }
 
 int pthread_create(pthread_t *thread, const pthread_attr_t *how, void *(*body)(void *), void *with) {
-    static int (*real)(pthread_t *, const pthread_attr_t *, void *(*)(void *), void *);
-    if (!real) real = (int (*)(pthread_t *, const pthread_attr_t *, void *(*)(void *), void *))dlsym(RTLD_NEXT, "pthread_create");
+    int (*real)(pthread_t *, const pthread_attr_t *, void *(*)(void *), void *);
+    *(void **)&real = dlsym(RTLD_NEXT, "pthread_create");
     if (running && strikes(next(&counts->threads), job.thread_at, job.thread_on)) return EAGAIN;
     return real(thread, how, body, with);
 }
