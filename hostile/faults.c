@@ -36,7 +36,7 @@ struct job {
     int64_t write_at, write_on, write_errno, write_most;     /* errno 0: nothing was taken */
     int64_t error_at, error_on, error_errno, error_most;     /* writes to standard error */
     int64_t thread_at, thread_on;
-    int64_t delay;                                           /* greatest sleep in an allocation, in microseconds */
+    int64_t delay, delay_every;                              /* one allocation in so many sleeps up to `delay` us */
     int64_t change_at, change_to;                            /* the byte of the document at this place, from 1 */
     int64_t seed, seconds;
 };
@@ -74,7 +74,7 @@ static int refused(void) {
     int64_t number = next(&counts->allocations);
     if (job.delay) {
         uint64_t x = drawn(number);
-        if (x % 32 == 0) usleep((x >> 8) % job.delay + 1);
+        if (x % job.delay_every == 0) usleep((x >> 8) % job.delay + 1);
         else if (x % 4 == 0) sched_yield();
     }
     int unlucky = job.allocation_chance && drawn(number) % job.allocation_chance == 0;

@@ -8,7 +8,7 @@ import subprocess
 from pathlib import Path
 
 FIELDS = ('allocation_at allocation_on allocation_chance read_at read_on read_errno read_most write_at write_on '
-          'write_errno write_most error_at error_on error_errno error_most thread_at thread_on delay change_at '
+          'write_errno write_most error_at error_on error_errno error_most thread_at thread_on delay delay_every change_at '
           'change_to seed seconds').split()
 COUNTS = 'allocations reads writes errors threads faults shortened'.split()
 ANSWER = struct.Struct('<%dq' % (len(COUNTS) + 3))
