@@ -8,8 +8,8 @@ import subprocess
 from pathlib import Path
 
 FIELDS = ('allocation_at allocation_on allocation_chance read_at read_on read_errno read_most write_at write_on '
-          'write_errno write_most error_at error_on error_errno error_most thread_at thread_on delay delay_every change_at '
-          'change_to seed seconds').split()
+          'write_errno write_most error_at error_on error_errno error_most thread_at thread_on delay delay_every '
+          'change_at change_to seed seconds').split()
 COUNTS = 'allocations reads writes errors threads faults shortened'.split()
 ANSWER = struct.Struct('<%dq' % (len(COUNTS) + 3))
 JOBS, ANSWERS, ALWAYS, HALF, ANY = 198, 199, 1, -1, -2
