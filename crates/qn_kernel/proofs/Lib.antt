@@ -1,4 +1,5 @@
 pub mod Axes
 pub mod Both
+pub mod Capped
 pub mod Frames
 mod Zeros

@@ -120,6 +120,10 @@ pub record IsSource (x : SourceValue) : Type 0 where
   pub second : All IsKept x.second_kept
   pub paired : All IsPaired x.paired
 
+-- pairs of blocks for one block of the result, with so many entries
+abbrev pub AreSources : ℕ → List SourceValue → Type 0
+AreSources len xs = All IsSource xs
+
 -- what all blocks of a contraction have in common: the word of the legs of both tensors, the places of the goal and of the legs that stay open, and those legs
 pub record IsFrame (ks ls : List LegValue) (shared : List (ℕ × ℕ)) (word : List LegValue) (goal places : List ℕ) (left : List LegValue) : Type 0 where
   pub coupling : IsCoupling (ks ++ ls) (couples_of (length ks) shared)
@@ -140,3 +144,9 @@ IsReadable ls b = IsTuple ls b.tuple × (block_size ls b.tuple ≤ 4194304)
 abbrev pub IsPassing : List SourceValue → List ℕ → ℕ → StepFault → Type 0
 IsPassing xs t len (Passed at offset) = (at ≡ t) × (offset < len) × (limit < size_sum xs offset) × ((j : ℕ) → j < offset → size_sum xs j ≤ limit)
 IsPassing xs t len Memory = Unit {0}
+
+-- the first entry of a block whose sum of magnitudes is above 2^127 - 1 is this one
+pub record IsFirstAbove (xs : List SourceValue) (len o : ℕ) : Type 0 where
+  pub inside : o < len
+  pub above : limit < size_sum xs o
+  pub before : (j : ℕ) → j < o → size_sum xs j ≤ limit

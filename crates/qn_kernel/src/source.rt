@@ -8,7 +8,7 @@ ghost use Rattle.qn_gauss.specs.Gaussian.{limit};
 ghost use Rattle.qn_index.specs.Tuples.{IsTuple};
 ghost use Rattle.qn_index.specs.Places.{block_size};
 ghost use Rattle.qn_strides.specs.Strides.{sector_parities};
-ghost use Rattle.qn_kernel.specs.Sources.{IsFrame, IsReadable, IsSource, IsPassing, source_of, sources, entry_sum, size_sum, products};
+ghost use Rattle.qn_kernel.specs.Sources.{IsFrame, IsReadable, IsSource, AreSources, IsPassing, source_of, sources, entry_sum, size_sum, products};
 
 use crate::paired::{after_zeros, paired_of};
 use crate::sum::{Source, entry_of};
@@ -129,7 +129,7 @@ pub fn sources_of<'a, const K: usize>(
     requires first_there { All (λ p. p.0 < length xs.now) pairs.now }
     requires second_there { All (λ p. p.1 < length ys.now) pairs.now }
     ensures value { IfOk result (λ v. v.items ≡ sources group.now firsts.now seconds.now shared.now turned left.now sectors.now xs.now ys.now pairs.now) }
-    ensures small { IfOk result (λ v. All IsSource v.items) }
+    ensures small { IfOk result (λ v. AreSources (block_size left.now sectors.now) v.items) }
 {
     let mut sources = Vec::with_capacity(alloc, pairs.len())?;
     for pair in pairs {
@@ -161,7 +161,7 @@ pub fn block_from<L: Ledger>(
     len: u64,
     steps: &mut Steps<L>,
 ) -> Result<Block, StepFault>
-    requires sources { All IsSource sources.now }
+    requires sources { AreSources len sources.now }
     requires len { len ≤ 2 ^ 22 }
     ensures block { IfOk result (λ b. b ≡ record { tuple = tuple.now; entries = map (entry_sum sources.now) (positions len) }) }
     ensures clear { OnOk result ((o : ℕ) → o < len → size_sum sources.now o ≤ limit) }

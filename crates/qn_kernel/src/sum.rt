@@ -31,13 +31,13 @@ impl<'a> Model for Source<'a> {
 }
 
 impl<'a> Source<'a> {
-    fn firsts(&self) -> &[Gauss]
+    pub(crate) fn firsts(&self) -> &[Gauss]
         ensures { result.now ≡ self.now.firsts }
     {
         self.firsts
     }
 
-    fn seconds(&self) -> &[Gauss]
+    pub(crate) fn seconds(&self) -> &[Gauss]
         ensures { result.now ≡ self.now.seconds }
     {
         self.seconds
@@ -49,19 +49,19 @@ impl<'a> Source<'a> {
         self.minus
     }
 
-    fn first_kept(&self) -> &[Kept]
+    pub(crate) fn first_kept(&self) -> &[Kept]
         ensures { result.now ≡ self.now.first_kept }
     {
         &self.first_kept
     }
 
-    fn second_kept(&self) -> &[Kept]
+    pub(crate) fn second_kept(&self) -> &[Kept]
         ensures { result.now ≡ self.now.second_kept }
     {
         &self.second_kept
     }
 
-    fn paired(&self) -> &[Paired]
+    pub(crate) fn paired(&self) -> &[Paired]
         ensures { result.now ≡ self.now.paired }
     {
         &self.paired

@@ -1,7 +1,14 @@
 pub mod Amounts
 pub mod Called
 pub mod Contracted
-pub mod Filled
+pub mod Jobs
+pub mod Kept
+pub mod Listed
+pub mod Loops
+pub mod Merging
+pub mod Ending
+pub mod Placing
+pub mod Products
 pub mod Tasks
 pub mod Terms
 pub mod Weighed

@@ -1,20 +1,19 @@
 -- The blocks of the tasks of a contraction.
-use Rattle.std.proofs.Common.{◌≡◌, ◌≤◌, ◌<◌, ℕ, zero, suc, ◌+◌, ◌*◌, ℤ, Bool, ◌&&◌, None, List, [], ◌∷◌, ◌++◌, refl, sym, ◌∙◌, ap, ap₂, subst, map, length, get_or, zero-add, arith}
+use Rattle.std.proofs.Common.{◌≡◌, ◌≤◌, ◌<◌, ℕ, zero, suc, ◌+◌, ◌*◌, ℤ, Bool, ◌&&◌, None, Some, List, [], ◌∷◌, ◌++◌, refl, sym, ◌∙◌, ap, ap₂, subst, map, length, get_or, add-zero, zero-add, arith}
 use Rattle.std.specs.Prelude.{Result, Ok, Err, IfOk, IfErr, OnOk}
 use Rattle.std.specs.List.{All, range_with_len, flat_map, sum_by}
 use Rattle.std.proofs.Math.Nat.{mul-add}
 use Rattle.std.proofs.lemmas.List.Sums.{sum_by-cons}
 use Rattle.std.proofs.lemmas.List.Elements.{All-nil, All-cons, All-append, All-filter, All-map}
-use Rattle.std.proofs.lemmas.List.FromFn.{get_or-map-range_with_len, length-map-range_with_len}
 use Rattle.qn_sign.specs.Positions.{positions}
-use Rattle.qn_gauss.specs.Gaussian.{zero_g, limit}
+use Rattle.qn_gauss.specs.Gaussian.{Gaussian, limit}
 use Rattle.qn_charge.specs.declared.factor.Factor.{Factor}
 use Rattle.qn_charge.specs.Charges.{parity}
 use Rattle.qn_index.specs.Legs.{LegValue, sector_at}
 use Rattle.qn_index.specs.Tuples.{IsTuple}
 use Rattle.qn_index.specs.Places.{block_size, values_at}
 use Rattle.qn_value.specs.Tensors.{BlockValue, IsBlock}
-use Rattle.qn_value.specs.Local.{no_leg}
+use Rattle.qn_value.specs.Local.{no_leg, pair_entry}
 use Rattle.qn_value.specs.Magnitudes.{pair_magnitude}
 use Rattle.qn_block.specs.Blocked.{BlockedValue, IsBlocked, tensor_of}
 use Rattle.qn_block.specs.Refusals.{block_at}
@@ -24,9 +23,11 @@ use Rattle.qn_match.specs.Pairs.{give, all_pairs, pairs_for, TaskValue, task_for
 use Rattle.qn_match.specs.Shares.{shared_size, products_of}
 use Rattle.qn_strides.proofs.Opens.{left_legs}
 use Rattle.qn_strides.proofs.Passing.{clear_block, passing_block}
-use Rattle.qn_kernel.specs.Sources.{couples_of, SourceValue, paired_axes, all_values, source_of, sources, entry_sum, size_sum, products, IsFrame, IsReadable, IsPassing}
-use Rattle.qn_pair.specs.Steps.{result_legs, passing_in, IsTaskFault, IsEntry}
-use Rattle.qn_pair.proofs.Words.{legs_left, result_is}
+use Rattle.qn_kernel.specs.Sources.{couples_of, SourceValue, paired_axes, all_values, source_of, sources, entry_sum, size_sum, products, IsFrame, IsReadable, IsPassing, IsFirstAbove}
+use Rattle.qn_pair.specs.Steps.{passing_in, IsTaskFault, IsEntry}
+use Rattle.qn_pair.specs.Jobs.{JobValue, legs_of, tuple_at, task_block, sources_at, products_at, Passes}
+use Rattle.qn_pair.proofs.Words.{result_is}
+use Rattle.qn_pair.proofs.Listed.{left_same}
 use Rattle.qn_pair.proofs.Contracted.{entry_is}
 use Rattle.qn_pair.proofs.Amounts.{amount_is}
 
@@ -90,95 +91,101 @@ work_over fs ks ls ps turned rs ss bs ds size (p ∷ pairs) =
 
 -- ---- the block of a task
 
-module _ (a b : BlockedValue) (ps : List (ℕ × ℕ)) (between : Bool) (ha : IsBlocked a) (hb : IsBlocked b) (pair : IsPair a b ps) (out : List ℕ) (tuple : IsTuple (result_legs a b ps) out) where
-  abbrev turned : Bool
-  turned = between && parity b.group b.flux
+map_same : {A : Type 0} (f g : ℕ → A) (a n : ℕ) → ((k : ℕ) → k < n → f (a + k) ≡ g (a + k)) → map f (range_with_len a n) ≡ map g (range_with_len a n)
+map_same f g a zero h = refl
+map_same f g a (suc n) h =
+    let first : f a ≡ g a = subst (λ k. f k ≡ g k) (add-zero a) (h 0 (omega arith)) in
+    let rest : map f (range_with_len (a + 1) n) ≡ map g (range_with_len (a + 1) n) =
+    map_same f g (a + 1) n (λ k lt. let same : a + suc k ≡ a + 1 + k = omega arith in subst (λ m. f m ≡ g m) same (h (suc k) (omega arith))) in
+    λ i. first i ∷ rest i
 
-  abbrev pub found : List SourceValue
-  found = sources a.group a.legs b.legs ps (between && parity b.group b.flux) (result_legs a b ps) out a.blocks b.blocks (pairs_for ps a.blocks b.blocks out)
+module _ (j : JobValue) (t : ℕ) (ha : IsBlocked j.first) (hb : IsBlocked j.second) (pair : IsPair j.first j.second j.shared) (tuple : IsTuple (legs_of j) (tuple_at j t)) where
+  same : left_legs (j.first.legs ++ j.second.legs) (couples_of (length j.first.legs) j.shared) ≡ legs_of j
+  same = sym (result_is j.first j.second j.shared)
 
-  same : left_legs (a.legs ++ b.legs) (couples_of (length a.legs) ps) ≡ result_legs a b ps
-  same = sym (result_is a b ps)
+  turned : Bool
+  turned = j.between && parity j.second.group j.second.flux
 
-  pub entry_at : (o : ℕ) → o < block_size (result_legs a b ps) out → IsEntry a b ps between (values_at (result_legs a b ps) out o) (entry_sum found o)
+  pub entry_at : (o : ℕ) → o < block_size (legs_of j) (tuple_at j t) → pair_entry (tensor_of j.first) (tensor_of j.second) j.shared j.between (values_at (legs_of j) (tuple_at j t) o) ≡ entry_sum (sources_at j t) o
   entry_at o lt =
-      subst (λ ls. IsTuple ls out → o < block_size ls out → IsEntry a b ps between (values_at ls out o) (entry_sum (sources a.group a.legs b.legs ps turned ls out a.blocks b.blocks (pairs_for ps a.blocks b.blocks out)) o)) same
-      (λ h l. entry_is a b ps ha hb pair.shapes.legs between out o h l) tuple lt
+      subst (λ ls. IsTuple ls (tuple_at j t) → o < block_size ls (tuple_at j t) → IsEntry j.first j.second j.shared j.between (values_at ls (tuple_at j t) o) (entry_sum (sources j.first.group j.first.legs j.second.legs j.shared (j.between && parity j.second.group j.second.flux) ls (tuple_at j t) j.first.blocks j.second.blocks (pairs_for j.shared j.first.blocks j.second.blocks (tuple_at j t))) o)) same
+      (λ h l. entry_is j.first j.second j.shared ha hb pair.shapes.legs j.between (tuple_at j t) o h l) tuple lt
 
-  pub amount_at : (o : ℕ) → o < block_size (result_legs a b ps) out → pair_magnitude (tensor_of a) (tensor_of b) ps (values_at (result_legs a b ps) out o) ≡ size_sum found o
+  pub amount_at : (o : ℕ) → o < block_size (legs_of j) (tuple_at j t) → pair_magnitude (tensor_of j.first) (tensor_of j.second) j.shared (values_at (legs_of j) (tuple_at j t) o) ≡ size_sum (sources_at j t) o
   amount_at o lt =
-      subst (λ ls. IsTuple ls out → o < block_size ls out → pair_magnitude (tensor_of a) (tensor_of b) ps (values_at ls out o) ≡ size_sum (sources a.group a.legs b.legs ps turned ls out a.blocks b.blocks (pairs_for ps a.blocks b.blocks out)) o) same
-      (λ h l. amount_is a b ps ha hb pair.shapes.legs turned out o h l) tuple lt
+      subst (λ ls. IsTuple ls (tuple_at j t) → o < block_size ls (tuple_at j t) → pair_magnitude (tensor_of j.first) (tensor_of j.second) j.shared (values_at ls (tuple_at j t) o) ≡ size_sum (sources j.first.group j.first.legs j.second.legs j.shared (j.between && parity j.second.group j.second.flux) ls (tuple_at j t) j.first.blocks j.second.blocks (pairs_for j.shared j.first.blocks j.second.blocks (tuple_at j t))) o) same
+      (λ h l. amount_is j.first j.second j.shared ha hb pair.shapes.legs (j.between && parity j.second.group j.second.flux) (tuple_at j t) o h l) tuple lt
 
-  pub entries_at : (c : BlockValue) → c ≡ record { tuple = out; entries = map (entry_sum found) (positions (block_size (result_legs a b ps) out)) } →
-      (o : ℕ) → o < block_size (result_legs a b ps) out → IsEntry a b ps between (values_at (result_legs a b ps) out o) (get_or c.entries o zero_g)
-  entries_at c e o lt =
-      subst (IsEntry a b ps between (values_at (result_legs a b ps) out o))
-      (sym (ap (λ (d : BlockValue). get_or d.entries o zero_g) e ∙ get_or-map-range_with_len (entry_sum found) 0 (block_size (result_legs a b ps) out) o o zero_g lt (zero-add o)))
-      (entry_at o lt)
+  pub block_is : ◌≡◌ {A = BlockValue} (record { tuple = tuple_at j t; entries = map (entry_sum (sources_at j t)) (positions (block_size (legs_of j) (tuple_at j t))) }) (task_block j t)
+  block_is =
+      let f : ℕ → Gaussian = entry_sum (sources_at j t) in
+      let g : ℕ → Gaussian = λ o. pair_entry (tensor_of j.first) (tensor_of j.second) j.shared j.between (values_at (legs_of j) (tuple_at j t) o) in
+      let es : map f (positions (block_size (legs_of j) (tuple_at j t))) ≡ map g (positions (block_size (legs_of j) (tuple_at j t))) =
+      map_same f g 0 (block_size (legs_of j) (tuple_at j t)) (λ k lt. subst (λ m. f m ≡ g m) (sym (zero-add k)) (sym (entry_at k lt))) in
+      λ i. record { tuple = tuple_at j t; entries = es i }
 
-  pub full_at : (c : BlockValue) → c ≡ record { tuple = out; entries = map (entry_sum found) (positions (block_size (result_legs a b ps) out)) } → length c.entries ≡ block_size (result_legs a b ps) out
-  full_at c e = ap (λ (d : BlockValue). length d.entries) e ∙ length-map-range_with_len (entry_sum found) 0 (block_size (result_legs a b ps) out)
+  pub clear_at : ((o : ℕ) → o < block_size (legs_of j) (tuple_at j t) → size_sum (sources_at j t) o ≤ limit) → passing_in j.first j.second j.shared (tuple_at j t) ≡ None
+  clear_at h = clear_block (pair_magnitude (tensor_of j.first) (tensor_of j.second) j.shared) (legs_of j) (tuple_at j t) (λ o lt. subst (λ n. n ≤ limit) (sym (amount_at o lt)) (h o lt))
 
-  pub clear_at : ((o : ℕ) → o < block_size (result_legs a b ps) out → size_sum found o ≤ limit) → passing_in a b ps out ≡ None
-  clear_at h = clear_block (pair_magnitude (tensor_of a) (tensor_of b) ps) (result_legs a b ps) out (λ o lt. subst (λ n. n ≤ limit) (sym (amount_at o lt)) (h o lt))
+  pub passes_at : (o : ℕ) → o < block_size (legs_of j) (tuple_at j t) → limit < size_sum (sources_at j t) o → ((k : ℕ) → k < o → size_sum (sources_at j t) k ≤ limit) → passing_in j.first j.second j.shared (tuple_at j t) ≡ Some o
+  passes_at o lt above before =
+      passing_block (pair_magnitude (tensor_of j.first) (tensor_of j.second) j.shared) (legs_of j) (tuple_at j t) o lt (subst (λ n. limit < n) (sym (amount_at o lt)) above)
+      (λ k le. subst (λ n. n ≤ limit) (sym (amount_at k (omega (arith, le, lt)))) (before k le))
 
-  pub fault_at : (f : StepFault) → IsPassing found out (block_size (result_legs a b ps) out) f → IsTaskFault a b ps out f
-  fault_at (Passed at offset) h = (
-    h.0,
-    passing_block (pair_magnitude (tensor_of a) (tensor_of b) ps) (result_legs a b ps) out offset h.1 (subst (λ n. limit < n) (sym (amount_at offset h.1)) h.2)
-        (λ j lt. subst (λ n. n ≤ limit) (sym (amount_at j (omega (arith, lt, h.1)))) (h.3 j lt)),
-  )
-  fault_at Memory h = tt
-
-  pub work_at : products_of a b ps (task_for ps a.blocks b.blocks out) ≡ block_size (result_legs a b ps) out * products found
+  pub work_at : products_at j t ≡ block_size (legs_of j) (tuple_at j t) * products (sources_at j t)
   work_at =
-      ap (λ (ls : List LegValue). sum_by (λ (p : ℕ × ℕ). block_size ls out * shared_size ps a.legs (block_at a.blocks p.0).tuple) (pairs_for ps a.blocks b.blocks out)) (sym (legs_left a.legs b.legs ps pair.shapes.legs) ∙ same)
-      ∙ work_over a.group a.legs b.legs ps turned (result_legs a b ps) out a.blocks b.blocks (block_size (result_legs a b ps) out) (pairs_for ps a.blocks b.blocks out)
+      ap (λ (ls : List LegValue). sum_by (λ (p : ℕ × ℕ). block_size ls (tuple_at j t) * shared_size j.shared j.first.legs (block_at j.first.blocks p.0).tuple) (pairs_for j.shared j.first.blocks j.second.blocks (tuple_at j t))) (left_same j pair)
+      ∙ work_over j.first.group j.first.legs j.second.legs j.shared (j.between && parity j.second.group j.second.flux) (legs_of j) (tuple_at j t) j.first.blocks j.second.blocks (block_size (legs_of j) (tuple_at j t)) (pairs_for j.shared j.first.blocks j.second.blocks (tuple_at j t))
+
+-- a task passes exactly where it has a first passing place
+pub clear_fails : (j : JobValue) (t : ℕ) → passing_in j.first j.second j.shared (tuple_at j t) ≡ None → ¬ Passes j t
+clear_fails j t e p = none_some p.0 (sym e ∙ p.1)
+  where
+    none_some : (o : ℕ) → None ≡ Some o → ⊥
+    none_some o h = cc
 
 -- what is known of the block of a task
-pub record IsMade (a b : BlockedValue) (ps : List (ℕ × ℕ)) (between : Bool) (left : List LegValue) (task : TaskValue) (r : Result BlockValue StepFault) (later start : ℕ) : Type 0 where
-  pub full : IfOk r (λ c. length c.entries ≡ block_size left task.out)
-  pub entries : IfOk r (λ c. (o : ℕ) → o < block_size left task.out → IsEntry a b ps between (values_at left task.out o) (get_or c.entries o zero_g))
-  pub clear : OnOk r (passing_in a b ps task.out ≡ None)
-  pub err : IfErr r (IsTaskFault a b ps task.out)
-  pub steps_are : later ≤ start + products_of a b ps task
+pub record IsMade (j : JobValue) (t : ℕ) (r : Result BlockValue StepFault) (later start : ℕ) : Type 0 where
+  pub block : IfOk r (λ c. c ≡ task_block j t)
+  pub clear : OnOk r (¬ Passes j t)
+  pub err : IfErr r (IsTaskFault j.first j.second j.shared (tuple_at j t))
+  pub steps_are : later ≤ start + products_at j t
 
-pub block_made : (a b : BlockedValue) (ps : List (ℕ × ℕ)) (between : Bool) (left : List LegValue) (task : TaskValue) → IsBlocked a → IsBlocked b → IsPair a b ps → left ≡ result_legs a b ps → task ≡ task_for ps a.blocks b.blocks task.out → IsTuple left task.out →
-    (xs : List SourceValue) (fs : List Factor) (ks ls : List LegValue) (turn : Bool) (sectors : List ℕ) (bs ds : List BlockValue) (pairs : List (ℕ × ℕ)) →
-    fs ≡ a.group → ks ≡ a.legs → ls ≡ b.legs → turn ≡ (between && parity b.group b.flux) → sectors ≡ task.out → bs ≡ a.blocks → ds ≡ b.blocks → pairs ≡ task.pairs → xs ≡ sources fs ks ls ps turn left sectors bs ds pairs →
-    (len : ℕ) → len ≡ block_size left sectors → (t : List ℕ) → t ≡ task.out → (r : Result BlockValue StepFault) → IfOk r (λ c. c ≡ record { tuple = t; entries = map (entry_sum xs) (positions len) }) → OnOk r ((o : ℕ) → o < len → size_sum xs o ≤ limit) → IfErr r (IsPassing xs t len) →
-    (later start : ℕ) → later ≤ start + len * products xs → IsMade a b ps between left task r later start
-block_made a b ps between left task ha hb pair el et tuple xs fs ks ls turn sectors bs ds pairs e1 e2 e3 e4 e5 e6 e7 e8 src len el2 t ett r hok hclear herr later start steps =
-    subst (λ gs. IsMade a b ps between gs task r later start) (sym el) record {
-      full = if_ok _ _ r (λ c e. full_at a b ps between ha hb pair out good c (e ∙ path)) hok;
-      entries = if_ok _ _ r (λ c e. entries_at a b ps between ha hb pair out good c (e ∙ path)) hok;
-      clear =
-          if_ok _ _ r (λ c h. clear_at a b ps between ha hb pair out good (λ o lt. subst (λ (ys : List SourceValue). size_sum ys o ≤ limit) all (h o (omega (arith, lt, size))))) hclear;
-      err =
-          if_err _ _ r (λ f h. fault_at a b ps between ha hb pair out good f (subst (λ n. IsPassing (found a b ps between ha hb pair out good) out n f) size
-          (subst (λ u. IsPassing (found a b ps between ha hb pair out good) u len f) ett (subst (λ ys. IsPassing ys t len f) all h)))) herr;
-      steps_are =
-          omega (arith, steps, amount, work_at a b ps between ha hb pair out good, ap (products_of a b ps) et);
-    }
+pub block_made : (j : JobValue) (t : ℕ) → IsBlocked j.first → IsBlocked j.second → IsPair j.first j.second j.shared → IsTuple (legs_of j) (tuple_at j t) →
+    (xs : List SourceValue) → xs ≡ sources_at j t → (len : ℕ) → len ≡ block_size (legs_of j) (tuple_at j t) → (u : List ℕ) → u ≡ tuple_at j t →
+    (r : Result BlockValue StepFault) → IfOk r (λ c. c ≡ record { tuple = u; entries = map (entry_sum xs) (positions len) }) → OnOk r ((o : ℕ) → o < len → size_sum xs o ≤ limit) → IfErr r (IsPassing xs u len) →
+    (later start : ℕ) → later ≤ start + len * products xs → IsMade j t r later start
+block_made j t ha hb pair tuple xs e1 len e2 u e3 r hok hclear herr later start steps = record {
+  block = if_ok _ _ r (λ c e. e ∙ path ∙ block_is j t ha hb pair tuple) hok;
+  clear = if_ok _ _ r (λ c h. clear_fails j t (clear_at j t ha hb pair tuple (λ o lt. subst (λ (ys : List SourceValue). size_sum ys o ≤ limit) e1 (h o (omega (arith, lt, e2)))))) hclear;
+  err = if_err _ _ r fault herr;
+  steps_are = omega (arith, steps, amount, work_at j t ha hb pair tuple);
+}
   where
-    out : List ℕ
-    out = task.out
+    path : ◌≡◌ {A = BlockValue} (record { tuple = u; entries = map (entry_sum xs) (positions len) }) (record { tuple = tuple_at j t; entries = map (entry_sum (sources_at j t)) (positions (block_size (legs_of j) (tuple_at j t))) })
+    path = λ i. record { tuple = e3 i; entries = map (entry_sum (e1 i)) (positions (e2 i)) }
 
-    good : IsTuple (result_legs a b ps) task.out
-    good = subst (λ gs. IsTuple gs task.out) el tuple
+    amount : len * products xs ≡ block_size (legs_of j) (tuple_at j t) * products (sources_at j t)
+    amount = λ i. e2 i * products (e1 i)
 
-    all : xs ≡ found a b ps between ha hb pair task.out good
-    all = src ∙ (λ i. sources (e1 i) (e2 i) (e3 i) ps (e4 i) (el i) (e5 i) (e6 i) (e7 i) ((e8 ∙ ap (λ (u : TaskValue). u.pairs) et) i))
+    fault : (f : StepFault) → IsPassing xs u len f → IsTaskFault j.first j.second j.shared (tuple_at j t) f
+    fault (Passed at offset) h =
+        let k : IsPassing (sources_at j t) (tuple_at j t) (block_size (legs_of j) (tuple_at j t)) (Passed at offset) = subst (λ p. p) (λ i. IsPassing (e1 i) (e3 i) (e2 i) (Passed at offset)) h in
+        (k.0, passes_at j t ha hb pair tuple offset k.1 k.2 k.3)
+    fault Memory h = tt
 
-    size : len ≡ block_size (result_legs a b ps) task.out
-    size = el2 ∙ (λ i. block_size (el i) (e5 i))
+-- the first passing place of a task
+pub place_made : (j : JobValue) (t : ℕ) → IsBlocked j.first → IsBlocked j.second → IsPair j.first j.second j.shared → IsTuple (legs_of j) (tuple_at j t) →
+    (xs : List SourceValue) → xs ≡ sources_at j t → (len : ℕ) → len ≡ block_size (legs_of j) (tuple_at j t) → (o : ℕ) → IsFirstAbove xs len o → passing_in j.first j.second j.shared (tuple_at j t) ≡ Some o
+place_made j t ha hb pair tuple xs e1 len e2 o h =
+    let k : IsFirstAbove (sources_at j t) (block_size (legs_of j) (tuple_at j t)) o = subst (λ p. p) (λ i. IsFirstAbove (e1 i) (e2 i) o) h in
+    passes_at j t ha hb pair tuple o k.inside k.above k.before
 
-    amount : len * products xs ≡ block_size (result_legs a b ps) task.out * products (found a b ps between ha hb pair task.out good)
-    amount = λ i. size i * products (all i)
-
-    path : ◌≡◌ {A = BlockValue} (record { tuple = t; entries = map (entry_sum xs) (positions len) }) (record { tuple = task.out; entries = map (entry_sum (found a b ps between ha hb pair task.out good)) (positions (block_size (result_legs a b ps) task.out)) })
-    path = λ i. record { tuple = ett i; entries = map (entry_sum (all i)) (positions (size i)) }
+pub place_none : (j : JobValue) (t : ℕ) → IsBlocked j.first → IsBlocked j.second → IsPair j.first j.second j.shared → IsTuple (legs_of j) (tuple_at j t) →
+    (xs : List SourceValue) → xs ≡ sources_at j t → (len : ℕ) → len ≡ block_size (legs_of j) (tuple_at j t) → ((o : ℕ) → o < len → size_sum xs o ≤ limit) → ¬ Passes j t
+place_none j t ha hb pair tuple xs e1 len e2 h =
+    let k : (o : ℕ) → o < block_size (legs_of j) (tuple_at j t) → size_sum (sources_at j t) o ≤ limit = subst (λ p. p) (λ i. (o : ℕ) → o < e2 i → size_sum (e1 i) o ≤ limit) h in
+    clear_fails j t (clear_at j t ha hb pair tuple k)
 
 -- what the sources of a task ask for
 pub record AreAsked (ks ls : List LegValue) (ps : List (ℕ × ℕ)) (word : List LegValue) (goal places : List ℕ) (left : List LegValue) (sectors : List ℕ) (bs ds : List BlockValue) (pairs : List (ℕ × ℕ)) : Type 0 where

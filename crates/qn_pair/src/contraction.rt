@@ -1,178 +1,91 @@
 //! A contraction of two tensors.
 
-ghost use Rattle.std.specs.Prelude.{◌≡◌, ◌≤◌, ◌<◌, ◌+◌, ◌++◌, ◌&&◌, ◌^◌, ℕ, List, None, length, slice_index_or, IfOk, IfErr, OnOk};
-ghost use Rattle.std.specs.List.{All};
-ghost use Rattle.qn_gauss.specs.Gaussian.{zero_g};
-ghost use Rattle.qn_charge.specs.Charges.{parity};
-ghost use Rattle.qn_index.specs.Tuples.{IsTuple};
-ghost use Rattle.qn_index.specs.Places.{block_size, values_at};
-ghost use Rattle.qn_value.specs.Tensors.{IsBlock, AreAscending, entry_in};
+ghost use Rattle.std.specs.Prelude.{◌≡◌, ◌≤◌, ◌+◌, None, IfOk, IfErr, OnOk};
 ghost use Rattle.qn_value.specs.Local.{Pairwise};
-ghost use Rattle.qn_block.specs.Blocked.{MeetFlux, tensor_of};
+ghost use Rattle.qn_block.specs.Blocked.{tensor_of};
 ghost use Rattle.qn_block.specs.Steps.{IsStepFault};
-ghost use Rattle.qn_match.specs.Pairs.{task_for, tasks, IsPair};
+ghost use Rattle.qn_match.specs.Pairs.{IsPair};
 ghost use Rattle.qn_match.specs.Cost.{cost_of};
-ghost use Rattle.qn_match.specs.Shares.{products_of, TaskWithinShare, SharesWithinCost};
-ghost use Rattle.qn_kernel.specs.Sources.{couples_of, IsFrame};
-ghost use Rattle.qn_pair.specs.Steps.{result_legs, result_flux, passing_place, passing_in, IsTaskFault, IsEntry};
+ghost use Rattle.qn_pair.specs.Steps.{passing_place};
+ghost use Rattle.qn_pair.specs.Jobs.{cost_of_job, passing_of_job};
+ghost use Rattle.qn_pair.specs.Workers.{IsComplete, IsOutcome};
 
+use crate::frame::Frame;
 use crate::gate::Gate;
+use crate::job::Job;
+use crate::result::blocks_in_order;
+use crate::sharing::share_out;
 use qn_block::{Block, BlockTensor, StepFault};
-use qn_charge::{Abelian, Charge, Group};
+use qn_board::Board;
+use qn_charge::Abelian;
 use qn_gauss::Steps;
-use qn_index::{Leg, block_len};
-use qn_kernel::{block_from, sources_of};
-use qn_match::laws::tasks_within_cost;
-use qn_match::{Task, pairs};
-use qn_strides::{goal_places, legs_at, open_places};
+use qn_match::pairs;
 use std::alloc::{AllocError, Global};
 use std::sync::ledger::Ledger;
 use std::thread::Threads;
 
-/// Appends equal legs.
-fn append_copies<const K: usize>(legs: &[Leg<K>], out: &mut Vec<Leg<K>>) -> Result<(), AllocError>
-    ensures { OnOk result (out.new.items ≡ out.old.items ++ legs.now) }
+/// Counts so many steps.
+fn tick_all<L: Ledger>(count: u64, steps: &mut Steps<L>)
+    ensures { steps.new ≡ steps.old + count }
 {
-    for leg in legs {
-        out.push(leg.copy()?)?;
+    for _ in 0..count {
+        steps.tick();
     }
-    Ok(())
 }
 
-/// The legs of both tensors, first those of the first.
-fn word_of<const K: usize>(
+/// The work of so many workers, this thread among them: the least task that passes, or none and the blocks of all tasks with
+/// their numbers.
+#[tactic(none)]
+fn worked<const K: usize, R: Threads + Sync, G: Gate, L: Ledger>(
+    rt: &R,
     alloc: Global,
-    firsts: &[Leg<K>],
-    seconds: &[Leg<K>],
-) -> Result<Vec<Leg<K>>, AllocError>
-    ensures { IfOk result (λ v. v.items ≡ firsts.now ++ seconds.now) }
-{
-    let mut word = Vec::with_capacity(alloc, firsts.len())?;
-    append_copies(firsts, &mut word)?;
-    append_copies(seconds, &mut word)?;
-    Ok(word)
-}
-
-/// The places of the shared legs in the word of both tensors.
-fn couples_of(
-    alloc: Global,
-    count: usize,
-    shared: &[(usize, usize)],
-) -> Result<Vec<(usize, usize)>, AllocError>
-    requires few { count ≤ 64 }
-    requires small { All (λ p. p.1 < 64) shared.now }
-    ensures { IfOk result (λ v. v.items ≡ couples_of count shared.now) }
-{
-    let mut couples = Vec::with_capacity(alloc, shared.len())?;
-    for pair in shared {
-        couples.push((pair.0, count + pair.1))?;
-    }
-    Ok(couples)
-}
-
-/// Whether all signs are turned: whether what stands between the two tensors is odd, and so is the second one's flux.
-fn is_turned<const K: usize>(group: &Group<K>, flux: &Charge<K>, between_odd: bool) -> bool
-    ensures { result ≡ (between_odd && parity group.now flux.now) }
-{
-    between_odd && group.parity(flux)
-}
-
-/// The block of a task, or its first place at which the sum of magnitudes is above 2^127 - 1.
-fn block_of<const K: usize, L: Ledger>(
-    alloc: Global,
-    a: &BlockTensor<K>,
-    b: &BlockTensor<K>,
-    shared: &[(usize, usize)],
-    between_odd: bool,
-    word: &[Leg<K>],
-    goal: &[usize],
-    places: &[usize],
-    left: &[Leg<K>],
-    task: &Task,
+    frame: &Frame<'_, K>,
+    workers: u32,
+    gate: &G,
     steps: &mut Steps<L>,
-) -> Result<Block, StepFault>
-    requires pair { IsPair a.now b.now shared.now }
-    requires frame { IsFrame a.now.legs b.now.legs shared.now word.now goal.now places.now left.now }
-    requires left { left.now ≡ result_legs a.now b.now shared.now }
-    requires task { task.now ≡ task_for shared.now a.now.blocks b.now.blocks task.now.out }
-    requires tuple { IsTuple left.now task.now.out }
-    requires small { block_size left.now task.now.out ≤ 2 ^ 22 }
-    ensures tuple { IfOk result (λ c. c.tuple ≡ task.now.out) }
-    ensures full { IfOk result (λ c. length c.entries ≡ block_size left.now task.now.out) }
-    ensures entries { IfOk result (λ c. (o : ℕ) → o < block_size left.now task.now.out → IsEntry a.now b.now shared.now between_odd (values_at left.now task.now.out o) (slice_index_or c.entries o zero_g)) }
-    ensures clear { OnOk result (passing_in a.now b.now shared.now task.now.out ≡ None) }
-    ensures err { IfErr result (IsTaskFault a.now b.now shared.now task.now.out) }
-    ensures steps { steps.new ≤ steps.old + products_of a.now b.now shared.now task.now }
+) -> Result<(Option<u64>, Vec<(u64, Block)>), AllocError>
+    requires some { 1 ≤ workers }
+    requires few { workers ≤ 64 }
+    ensures outcome { IfOk result (λ r. IsOutcome frame.now r.0 r.1.items) }
+    ensures steps { steps.new ≤ steps.old + cost_of_job frame.now }
 {
-    a.known();
-    b.known();
-    let sectors = task.out.as_slice();
-    let turned = is_turned(b.group(), b.flux(), between_odd);
-    let sources = sources_of(
-        alloc,
-        a.group(),
-        a.legs(),
-        b.legs(),
-        shared,
-        word,
-        goal,
-        places,
-        left,
-        turned,
-        sectors,
-        a.blocks(),
-        b.blocks(),
-        &task.pairs,
-    )?;
-    let len = block_len(left, sectors);
-    block_from(alloc, &sources, &task.out, len, steps)
+    frame.priced();
+    let weight = u64::from(workers);
+    let (board, seat) = Board::new(alloc, frame.count() as u64, weight)?;
+    let (seat, cost, done) = share_out(rt, alloc, frame, &board, gate, seat, weight);
+    let outcome = board.finish(seat);
+    tick_all(cost, steps);
+    match done {
+        Ok(done) => Ok((outcome.least, done)),
+        Err(e) => Err(e),
+    }
 }
 
-/// The blocks of all tasks, or the first place at which the sum of magnitudes is above 2^127 - 1.
-fn blocks_of<const K: usize, L: Ledger>(
+/// The blocks of all tasks with their numbers, or the first place that passes.
+#[tactic(none)]
+fn all_blocks<const K: usize, R: Threads + Sync, G: Gate, L: Ledger>(
+    rt: &R,
     alloc: Global,
-    a: &BlockTensor<K>,
-    b: &BlockTensor<K>,
-    shared: &[(usize, usize)],
-    between_odd: bool,
-    word: &[Leg<K>],
-    goal: &[usize],
-    places: &[usize],
-    left: &[Leg<K>],
-    list: &[Task],
+    frame: &Frame<'_, K>,
+    workers: u32,
+    gate: &G,
     steps: &mut Steps<L>,
-) -> Result<Vec<Block>, StepFault>
-    requires pair { IsPair a.now b.now shared.now }
-    requires frame { IsFrame a.now.legs b.now.legs shared.now word.now goal.now places.now left.now }
-    requires left { left.now ≡ result_legs a.now b.now shared.now }
-    requires tasks { list.now ≡ tasks a.now b.now shared.now }
-    ensures blocks { IfOk result (λ bs. All (IsBlock a.now.group left.now (result_flux a.now b.now)) bs.items) }
-    ensures ascending { IfOk result (λ bs. AreAscending bs.items) }
-    ensures entries { IfOk result (λ bs. (xs : List ℕ) → MeetFlux a.now.group left.now (result_flux a.now b.now) xs → IsEntry a.now b.now shared.now between_odd xs (entry_in left.now bs.items xs)) }
-    ensures clear { OnOk result (passing_place a.now b.now shared.now ≡ None) }
-    ensures err { IfErr result (IsStepFault (passing_place a.now b.now shared.now)) }
-    ensures steps { steps.new ≤ steps.old + cost_of a.now.group a.now.legs a.now.flux b.now.legs b.now.flux shared.now }
+) -> Result<Vec<(u64, Block)>, StepFault>
+    requires some { 1 ≤ workers }
+    requires few { workers ≤ 64 }
+    ensures done { IfOk result (λ v. IsComplete frame.now v.items) }
+    ensures clear { OnOk result (passing_of_job frame.now ≡ None) }
+    ensures err { IfErr result (IsStepFault (passing_of_job frame.now)) }
+    ensures steps { steps.new ≤ steps.old + cost_of_job frame.now }
 {
-    a.known();
-    b.known();
-    tasks_within_cost();
-    let mut blocks = Vec::with_capacity(alloc, list.len())?;
-    for task in list {
-        blocks.push(block_of(
-            alloc,
-            a,
-            b,
-            shared,
-            between_odd,
-            word,
-            goal,
-            places,
-            left,
-            task,
-            steps,
-        )?)?;
+    let (least, done) = worked(rt, alloc, frame, workers, gate, steps)?;
+    match least {
+        Some(task) => match frame.first_place(task as usize) {
+            Ok(fault) => Err(fault),
+            Err(_) => Err(StepFault::Memory),
+        },
+        None => Ok(done),
     }
-    Ok(blocks)
 }
 
 /// Two tensors contracted over pairs of legs, given by their places in `a` and in `b`: the result has the legs of `a`
@@ -180,17 +93,21 @@ fn blocks_of<const K: usize, L: Ledger>(
 /// bringing the two legs of each pair together, the word being the legs of `a` and then those of `b`; where
 /// `between_odd` and the flux of `b` are odd the result is negated.
 ///
+/// So many workers, this thread among them, draw the blocks of the result one by one and pass the gate with each; the
+/// answer is the same for every number of workers. Blocks that no pair of blocks adds to are left out.
+///
 /// Passed where a sum of products of magnitudes is above 2^127 - 1, at the first such place, whatever the sum itself is.
-/// Each multiplication is one of `steps`. All work is done on the calling thread, and no gate is passed yet.
+/// Each multiplication is one of `steps`.
+#[tactic(none)]
 pub fn contract<const K: usize, R: Threads + Sync, G: Gate, L: Ledger>(
-    _rt: &R,
+    rt: &R,
     alloc: Global,
     a: &BlockTensor<K>,
     b: &BlockTensor<K>,
     shared: &[(usize, usize)],
     between_odd: bool,
     workers: u32,
-    _gate: &G,
+    gate: &G,
     steps: &mut Steps<L>,
 ) -> Result<BlockTensor<K>, StepFault>
     requires pair { IsPair a.now b.now shared.now }
@@ -203,25 +120,18 @@ pub fn contract<const K: usize, R: Threads + Sync, G: Gate, L: Ledger>(
 {
     a.known();
     b.known();
-    let word = word_of(alloc, a.legs(), b.legs())?;
-    let couples = couples_of(alloc, a.legs().len(), shared)?;
-    let places = open_places(alloc, &couples, word.len())?;
-    let goal = goal_places(alloc, &word, &couples, &places)?;
-    let left = legs_at(alloc, &word, &places)?;
     let tasks = pairs(alloc, a, b, shared)?;
-    let blocks = blocks_of(
-        alloc,
-        a,
-        b,
+    let job = Job {
+        first: a,
+        second: b,
         shared,
         between_odd,
-        &word,
-        &goal,
-        &places,
-        &left,
-        &tasks,
-        steps,
-    )?;
+        tasks: &tasks,
+    };
+    let frame = Frame::new(alloc, &job)?;
+    let done = all_blocks(rt, alloc, &frame, workers, gate, steps)?;
+    let blocks = blocks_in_order(alloc, &job, done)?;
+    let left = frame.into_left();
     let flux = a.group().add(a.flux(), b.flux());
     Ok(BlockTensor::of_blocks(*a.group(), left, flux, blocks))
 }

@@ -16,12 +16,12 @@ use std::sync::ledger::{Blank, Ledger};
 use std::test::Fail;
 use std::thread::Threads;
 
-const BOSON: Factor = Factor::U1 { fermion: false };
+pub(crate) const BOSON: Factor = Factor::U1 { fermion: false };
 
 pub(crate) const FERMION: Factor = Factor::U1 { fermion: true };
 
 // 2^126 and 2^127 - 1.
-const HALF: i128 = 85070591730234615865843651857942052864;
+pub(crate) const HALF: i128 = 85070591730234615865843651857942052864;
 
 const MOST: i128 = 170141183460469231731687303715884105727;
 
@@ -29,10 +29,10 @@ const MOST: i128 = 170141183460469231731687303715884105727;
 pub(crate) type LegRow<'a> = (Dir, &'a [(i64, u32)]);
 
 // A block: its tuple, and the real parts of its entries.
-type BlockRow<'a> = (&'a [u32], &'a [i128]);
+pub(crate) type BlockRow<'a> = (&'a [u32], &'a [i128]);
 
 // A tensor: its legs, its flux and its blocks.
-type TensorRow<'a> = (&'a [LegRow<'a>], i64, &'a [BlockRow<'a>]);
+pub(crate) type TensorRow<'a> = (&'a [LegRow<'a>], i64, &'a [BlockRow<'a>]);
 
 // What a contraction answers: the blocks of the result, or a passing place.
 #[derive(Clone, Copy)]
@@ -101,7 +101,11 @@ pub(crate) fn flux_of(rt: &impl Abort, group: &Group<1>, part: i64) -> Charge<1>
     }
 }
 
-fn entries_of(rt: &impl Abort, alloc: Global, parts: &[i128]) -> Result<Vec<Gauss>, AllocError> {
+pub(crate) fn entries_of(
+    rt: &impl Abort,
+    alloc: Global,
+    parts: &[i128],
+) -> Result<Vec<Gauss>, AllocError> {
     let mut entries = Vec::new(alloc);
     for part in parts {
         match Gauss::new(*part, 0) {
@@ -123,7 +127,7 @@ fn blocks_of(rt: &impl Abort, alloc: Global, rows: &[BlockRow]) -> Result<Vec<Bl
     Ok(blocks)
 }
 
-fn tensor_of(
+pub(crate) fn tensor_of(
     rt: &impl Abort,
     alloc: Global,
     factor: Factor,
@@ -177,7 +181,7 @@ fn cost_of_pair(
     )
 }
 
-fn expect_blocks(
+pub(crate) fn expect_blocks(
     rt: &impl Abort,
     alloc: Global,
     found: &[Block],
@@ -196,11 +200,14 @@ fn expect_row<L: Ledger, R: Abort + Threads + Sync>(
     blank: Blank,
     rt: &R,
     alloc: Global,
+    workers: u32,
     row: Row,
 ) -> Result<(), AllocError>
     requires name { blank.name ≡ L.name }
     requires parts { blank.parts ≡ L.parts }
     requires some { 0 < L.parts }
+    requires workers { 1 ≤ workers }
+    requires few { workers ≤ 64 }
 {
     let mut steps = Steps::<L>::new(blank);
     let (factor, first, second, shared, between_odd, products, answer) = row;
@@ -215,7 +222,7 @@ fn expect_row<L: Ledger, R: Abort + Threads + Sync>(
         &b,
         shared,
         between_odd,
-        1,
+        workers,
         &OpenGate,
         &mut steps,
     ) {
@@ -239,9 +246,9 @@ const ONE: &[(i64, u32)] = &[(1, 1)];
 
 const TWO: &[(i64, u32)] = &[(0, 2)];
 
-const SITE: &[(i64, u32)] = &[(0, 1), (1, 1)];
+pub(crate) const SITE: &[(i64, u32)] = &[(0, 1), (1, 1)];
 
-const THREE: &[(i64, u32)] = &[(0, 1), (1, 1), (2, 1)];
+pub(crate) const THREE: &[(i64, u32)] = &[(0, 1), (1, 1), (2, 1)];
 
 #[test]
 fn contractions(rt: HostRuntime) -> Result<(), Fail> {
@@ -302,7 +309,7 @@ fn contractions(rt: HostRuntime) -> Result<(), Fail> {
         ),
     ];
     for row in rows {
-        expect_row::<Brand, _>(Blank::new(1), &rt, alloc, *row)?;
+        expect_row::<Brand, _>(Blank::new(1), &rt, alloc, 1, *row)?;
     }
     Ok(())
 }
@@ -358,7 +365,7 @@ fn products_of_matrices(rt: HostRuntime) -> Result<(), Fail> {
         ),
     ];
     for row in rows {
-        expect_row::<Brand, _>(Blank::new(1), &rt, alloc, *row)?;
+        expect_row::<Brand, _>(Blank::new(1), &rt, alloc, 1, *row)?;
     }
     Ok(())
 }
@@ -409,6 +416,41 @@ fn places_that_pass(rt: HostRuntime) -> Result<(), Fail> {
             3,
             Answer::Passed(&[1, 1], 0),
         ),
+        // The first block alone, and the last one alone.
+        (
+            BOSON,
+            (
+                chain,
+                0,
+                &[(&[0, 0], &[HALF]), (&[1, 1], &[1]), (&[2, 2], &[1])],
+            ),
+            (
+                chain,
+                0,
+                &[(&[0, 0], &[2]), (&[1, 1], &[2]), (&[2, 2], &[2])],
+            ),
+            &[(1, 0)],
+            false,
+            3,
+            Answer::Passed(&[0, 0], 0),
+        ),
+        (
+            BOSON,
+            (
+                chain,
+                0,
+                &[(&[0, 0], &[1]), (&[1, 1], &[1]), (&[2, 2], &[HALF])],
+            ),
+            (
+                chain,
+                0,
+                &[(&[0, 0], &[2]), (&[1, 1], &[2]), (&[2, 2], &[2])],
+            ),
+            &[(1, 0)],
+            false,
+            3,
+            Answer::Passed(&[2, 2], 0),
+        ),
         // The first of two offsets.
         (
             BOSON,
@@ -421,7 +463,9 @@ fn places_that_pass(rt: HostRuntime) -> Result<(), Fail> {
         ),
     ];
     for row in rows {
-        expect_row::<Brand, _>(Blank::new(1), &rt, alloc, *row)?;
+        for workers in [1, 2, 7, 64] {
+            expect_row::<Brand, _>(Blank::new(1), &rt, alloc, workers, *row)?;
+        }
     }
     Ok(())
 }

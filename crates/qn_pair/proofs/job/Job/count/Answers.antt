@@ -1,0 +1,9 @@
+use Rattle.std.proofs.Common.{◌≡◌, List, length, ap, ◌∙◌}
+use Rattle.qn_pair.specs.Jobs.{JobValue, tuples_of}
+use Rattle.qn_pair.proofs.Listed.{list_long}
+use Rattle.qn_pair.proofs.job.Job.count.Goals as goal
+
+pub returns-clause-count : goal.returns-clause-count
+returns-clause-count g c =
+    list_long (record { first = c.self.inside.first.now; second = c.self.inside.second.now; shared = c.self.inside.shared.now; between = c.self.inside.between_odd }) c.self.inside.tasks.now c.self.invariant
+    ∙ ap (λ (j : JobValue). length (tuples_of j)) c.self.view_is
