@@ -5,12 +5,17 @@ use Rattle.std.specs.List.{All}
 use Rattle.qn_value.specs.Tensors.{BlockValue}
 use Rattle.qn_board.specs.Lists.{occurrences, IsIn, IsLeast, IsEachBelow, once_below, greatest}
 use Rattle.qn_board.specs.Seats.{SeatValue}
+use Rattle.qn_board.specs.Machine.{first_seat}
 use Rattle.qn_board.proofs.Counting.{in_either, in_one, below_of, below_once, below_less}
 use Rattle.qn_board.proofs.Settles.{in_or_not}
 use Rattle.qn_pair.specs.Jobs.{JobValue, tuples_of, task_block, Passes, cost_of_job, ArePriced}
 use Rattle.qn_pair.specs.Work.{numbers, IsResult}
-use Rattle.qn_pair.specs.Workers.{IsShared, IsAll, IsComplete, IsClear, IsFirst, IsOutcome}
+use Rattle.qn_pair.specs.Workers.{IsFresh, IsShared, IsAll, IsComplete, IsClear, IsFirst, IsOutcome}
 use Rattle.qn_pair.proofs.Loops.{all_rest}
+
+-- a board's first seat has done nothing
+pub fresh_first : (w : ℕ) (s : SeatValue) → s ≡ first_seat w → IsFresh w s
+fresh_first w s e = subst (IsFresh w) (sym e) (record { weight_is = refl; spent = refl; drawn = refl; noted = refl })
 
 result_clear : (j : JobValue) (xs : List ℕ) (ds : List (ℕ × BlockValue)) (t : ℕ) → All (IsResult j xs) ds → IsIn t (numbers ds) → ¬ Passes j t
 result_clear j xs [] t h has = absurd (omega arith)

@@ -23,12 +23,15 @@ use Rattle.qn_value.specs.Magnitudes.{Place, first_passing, passing_offset, pair
 use Rattle.qn_value.proofs.Values.{same_values-equal}
 use Rattle.qn_block.specs.Blocked.{IsBlocked, MeetFlux, tensor_of}
 use Rattle.qn_block.specs.Refusals.{block_at}
+use Rattle.qn_block.specs.Steps.{IsStepFault}
+use Rattle.qn_block.specs.declared.step.StepFault.{StepFault}
+use Rattle.qn_block.specs.declared.step.StepFault.TheVariants.{Passed, Memory}
 use Rattle.qn_block.proofs.Written.{IsFilled, IsListed, admitted_pairs, filled_ascend, filled_answer}
 use Rattle.qn_block.proofs.Ascending.{filter_ascends}
 use Rattle.qn_block.proofs.Lookup.{not_below_itself, entry_nowhere}
 use Rattle.qn_match.specs.Pairs.{pairs_for, IsPair}
 use Rattle.qn_kernel.specs.Sources.{SourceValue, sources, entry_sum}
-use Rattle.qn_pair.specs.Steps.{result_flux, passing_in, IsEntry}
+use Rattle.qn_pair.specs.Steps.{result_flux, passing_in, IsEntry, IsTaskFault}
 use Rattle.qn_pair.specs.Jobs.{JobValue, IsKnown, legs_of, tuples_of, tuple_at, task_block, sources_at, Passes, passing_of_job}
 use Rattle.qn_pair.specs.Workers.{IsFirst, is_empty, has_pairs, kept_blocks}
 use Rattle.qn_pair.proofs.Listed.{listed_tuple}
@@ -58,6 +61,10 @@ none_passes j h = none_in (pair_magnitude (tensor_of j.first) (tensor_of j.secon
 
 pub first_passes : (j : JobValue) (t o : ℕ) → IsFirst j t → passing_in j.first j.second j.shared (tuple_at j t) ≡ Some o → passing_of_job j ≡ Some (record { tuple = tuple_at j t; offset = o })
 first_passes j t o f here = first_in (pair_magnitude (tensor_of j.first) (tensor_of j.second) j.shared) (legs_of j) (tuples_of j) t o f.task (λ u lt. clear_is j u (f.before u lt)) here
+
+pub fault_first : (j : JobValue) (t : ℕ) (f : StepFault) → IsFirst j t → IsTaskFault j.first j.second j.shared (tuple_at j t) f → IsStepFault (passing_of_job j) f
+fault_first j t (Passed at offset) first h = subst (λ (u : List ℕ). passing_of_job j ≡ Some (record { tuple = u; offset = offset })) (sym h.0) (first_passes j t offset first h.1)
+fault_first j t Memory first h = tt
 
 -- ---- the blocks of all tasks
 

@@ -1,19 +1,17 @@
 -- The list of a contraction's tasks, by their numbers.
-use Rattle.std.proofs.Common.{◌≡◌, ◌<◌, ℕ, suc, ◌+◌, List, [], ◌∷◌, refl, sym, ◌∙◌, ap, subst, map, length, get_or, arith}
-use Rattle.std.proofs.lemmas.List.{get_or_default, get_or-map}
+use Rattle.std.proofs.Common.{◌≡◌, ◌<◌, ◌≤◌, ◌^◌, ℕ, Bool, suc, ◌+◌, List, [], ◌∷◌, refl, sym, ◌∙◌, ap, subst, map, length, get_or, arith}
+use Rattle.std.proofs.lemmas.List.{length-map, get_or_default, get_or-map}
+use Rattle.std.proofs.lemmas.List.Sums.{count_by-le-length, length-filter}
 use Rattle.qn_index.specs.Legs.{LegValue}
-use Rattle.qn_index.specs.Tuples.{IsTuple, admitted}
+use Rattle.qn_index.specs.Tuples.{IsTuple, admits, tuples, admitted}
 use Rattle.qn_index.specs.Places.{block_size}
 use Rattle.qn_index.specs.Extents.{IsWithinLimits}
+use Rattle.qn_index.proofs.Shapes.{length_tuples}
 use Rattle.qn_block.proofs.Written.{IsListed, listed_at}
 use Rattle.qn_match.specs.Pairs.{joined, TaskValue, task_for, tasks, IsPair}
 use Rattle.qn_pair.specs.Steps.{result_flux}
 use Rattle.qn_pair.specs.Jobs.{JobValue, IsJob, legs_of, tuples_of, tuple_at}
 use Rattle.qn_pair.proofs.Words.{legs_left, result_is}
-
-length_mapped : {A B : Type 0} (f : A → B) (xs : List A) → length (map f xs) ≡ length xs
-length_mapped f [] = refl
-length_mapped f (x ∷ xs) = ap suc (length_mapped f xs)
 
 -- a task by its number
 pub record IsTask (j : JobValue) (i : ℕ) (t : TaskValue) : Type 0 where
@@ -26,11 +24,16 @@ left_same j pair = sym (result_is j.first j.second j.shared ∙ legs_left j.firs
 pub within_limits : (j : JobValue) → IsPair j.first j.second j.shared → IsWithinLimits j.first.group (legs_of j) (result_flux j.first j.second)
 within_limits j pair = subst (λ ls. IsWithinLimits j.first.group ls (result_flux j.first j.second)) (left_same j pair) pair.shapes.width
 
+pub few_tuples : (j : JobValue) → IsPair j.first j.second j.shared → length (tuples_of j) ≤ 2 ^ 20
+few_tuples j pair =
+    let by : List ℕ → Bool = admits j.first.group (legs_of j) (result_flux j.first j.second) in
+    omega (arith, length-filter by (tuples (legs_of j)), count_by-le-length by (tuples (legs_of j)), length_tuples (legs_of j), (within_limits j pair).tuples)
+
 list_is : (j : JobValue) (list : List TaskValue) → IsJob j.first j.second j.shared list → list ≡ map (task_for j.shared j.first.blocks j.second.blocks) (tuples_of j)
 list_is j list h = h.tasks_are ∙ ap (λ ls. map (task_for j.shared j.first.blocks j.second.blocks) (admitted j.first.group ls (result_flux j.first j.second))) (left_same j h.pair)
 
 pub list_long : (j : JobValue) (list : List TaskValue) → IsJob j.first j.second j.shared list → length list ≡ length (tuples_of j)
-list_long j list h = ap (λ (ts : List TaskValue). length ts) (list_is j list h) ∙ length_mapped (task_for j.shared j.first.blocks j.second.blocks) (tuples_of j)
+list_long j list h = ap (λ (ts : List TaskValue). length ts) (list_is j list h) ∙ length-map (tuples_of j) (task_for j.shared j.first.blocks j.second.blocks)
 
 pub listed_tuple : (j : JobValue) (i : ℕ) → IsPair j.first j.second j.shared → i < length (tuples_of j) → IsListed j.first.group (legs_of j) (result_flux j.first j.second) (tuple_at j i)
 listed_tuple j i pair lt =

@@ -4,6 +4,7 @@ use Rattle.std.specs.Prelude.{◌==◌, Option, option_to_list}
 use Rattle.std.specs.List.{All, flat_map, range_with_len}
 use lib.ListN.{length-set}
 use Rattle.std.proofs.lemmas.Bool.{eqb-true, false≢true}
+use Rattle.std.proofs.lemmas.List.{length-replicate}
 use Rattle.qn_sign.specs.Positions.{positions}
 use Rattle.qn_value.specs.Tensors.{BlockValue}
 use Rattle.qn_board.specs.Lists.{IsIn}
@@ -19,13 +20,9 @@ pub record IsPlaced (j : JobValue) (ds : List (ℕ × BlockValue)) (row : List (
   pub size : length row ≡ length (tuples_of j)
   pub there : (t : ℕ) → IsIn t (numbers ds) → get_or row t None ≡ slot_of j t
 
-length_replicated : {A : Type 0} (n : ℕ) (x : A) → length (replicate n x) ≡ n
-length_replicated zero x = refl
-length_replicated (suc n) x = ap suc (length_replicated n x)
-
 pub placed_first : (j : JobValue) (n : ℕ) (row : List (Option BlockValue)) → n ≡ length (tuples_of j) → row ≡ replicate n None → IsPlaced j [] row
 placed_first j n row e f = record {
-  size = ap (λ (xs : List (Option BlockValue)). length xs) f ∙ length_replicated n None ∙ e;
+  size = ap (λ (xs : List (Option BlockValue)). length xs) f ∙ length-replicate {A = Option BlockValue} n None ∙ e;
   there = λ t h. absurd (omega (arith, h));
 }
 

@@ -4,7 +4,7 @@ use Rattle.qn_index.specs.Legs.{LegValue}
 use Rattle.qn_index.specs.Tuples.{IsTuple}
 use Rattle.qn_index.specs.Places.{block_size}
 use Rattle.qn_match.specs.Pairs.{TaskValue}
-use Rattle.qn_kernel.specs.Sources.{sources}
+use Rattle.qn_kernel.specs.Sources.{sources, AreSources}
 use Rattle.qn_pair.proofs.Tasks.{sources_asked, AreAsked, if_ok}
 use Rattle.qn_pair.proofs.frame.sources_of_task.Goals as goal
 
@@ -29,3 +29,10 @@ returns-clause-value g c =
     if_ok _ _ c.sources_of.result
     (λ v e. e ∙ (λ i. sources (c.group-2.ensures i) (c.legs.ensures i) (c.legs-2.ensures i) c.args.shared.now (turn i) (left i) (sectors i) (c.blocks-2.ensures i) (c.blocks-3.ensures i) (pairs i)))
     c.sources_of.ensures.value
+
+pub returns-clause-small : goal.returns-clause-small
+returns-clause-small g c =
+    let l = c.requires.lists in
+    let sectors = c.as_slice-sectors.ensures ∙ ap (λ (t : TaskValue). t.out) c.task.view_is in
+    let left = c.deref-4.ensures.value ∙ l.left_is in
+    if_ok _ _ c.sources_of.result (λ v h. subst (λ q. q) (λ i. AreSources (block_size (left i) (sectors i)) v.items) h) c.sources_of.ensures.small

@@ -1,5 +1,6 @@
-use Rattle.std.proofs.Common.{◌≡◌, ◌∙◌, ap, subst}
+use Rattle.std.proofs.Common.{◌≡◌, ◌∙◌, ap, sym, subst, lit<}
 use Rattle.qn_match.specs.Pairs.{TaskValue}
+use Rattle.qn_kernel.specs.Sources.{AreSources}
 use Rattle.qn_pair.specs.Jobs.{JobValue, IsKnown, tuple_at}
 use Rattle.qn_pair.proofs.Listed.{listed_tuple}
 use Rattle.qn_pair.proofs.Tasks.{place_made, place_none}
@@ -17,3 +18,7 @@ returns g c =
       c.in_ok-at-in-Some.ensures ∙ out,
       place_made c.args.self.now c.args.task known.first known.second known.pair (listed_tuple c.args.self.now c.args.task known.pair c.requires.task).admissible.tuple c.deref.result.now (c.deref.ensures.value ∙ c.in_ok-sources.ensures.value) c.size-size.result c.size-size.ensures.value c.in-Some.offset c.in-Some.ensures,
     )
+
+pub first_above-requires : goal.first_above-requires
+first_above-requires g c =
+    (lit< tt, (subst (λ q. q) (λ i. AreSources (sym c.size-size.ensures.value i) (sym c.deref.ensures.value i)) c.in_ok-sources.ensures.small, c.size-size.ensures.small))

@@ -3,7 +3,7 @@ use Rattle.qn_charge.specs.Charges.{parity}
 use Rattle.qn_index.specs.Tuples.{IsTuple}
 use Rattle.qn_index.specs.Places.{block_size}
 use Rattle.qn_match.specs.Pairs.{TaskValue, task_for, pairs_for}
-use Rattle.qn_kernel.specs.Sources.{sources}
+use Rattle.qn_kernel.specs.Sources.{sources, AreSources}
 use Rattle.qn_pair.specs.Jobs.{JobValue, AreLists, legs_of, tuples_of, tuple_at}
 use Rattle.qn_pair.proofs.Listed.{listed_tuple}
 use Rattle.qn_pair.proofs.Tasks.{if_ok}
@@ -42,3 +42,10 @@ returns-clause-value g c =
     if_ok _ _ c.sources_of_task.result
     (λ xs q. q ∙ (λ i. sources (e i).first.group (e i).first.legs (e i).second.legs (e i).shared ((e i).between && parity (e i).second.group (e i).second.flux) (legs_of (e i)) (out i) (e i).first.blocks (e i).second.blocks (pairs i)))
     c.sources_of_task.ensures.value
+
+pub returns-clause-small : goal.returns-clause-small
+returns-clause-small g c =
+    let v : JobValue = record { first = c.job.inside.first.now; second = c.job.inside.second.now; shared = c.job.inside.shared.now; between = c.job.inside.between_odd } in
+    let e : v ≡ c.args.self.now = c.job.view_is ∙ c.self.view_is in
+    let out : c.task.result.now.out ≡ tuple_at c.args.self.now c.args.task = ap (λ (t : TaskValue). t.out) c.task.ensures ∙ ap (λ (j : JobValue). tuple_at j c.args.task) c.self.view_is in
+    if_ok _ _ c.sources_of_task.result (λ xs h. subst (λ q. q) (λ i. AreSources (block_size (legs_of (e i)) (out i)) xs.items) h) c.sources_of_task.ensures.small
