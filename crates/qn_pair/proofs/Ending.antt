@@ -6,12 +6,12 @@ use Rattle.qn_value.specs.Tensors.{BlockValue}
 use Rattle.qn_board.specs.Lists.{occurrences, IsIn, IsLeast, IsEachBelow, once_below, greatest}
 use Rattle.qn_board.specs.Seats.{SeatValue}
 use Rattle.qn_board.specs.Machine.{first_seat}
-use Rattle.qn_board.proofs.Counting.{in_either, in_one, below_of, below_once, below_less}
+use Rattle.qn_board.proofs.Counting.{in_either, in_one, below_of, below_less}
 use Rattle.qn_board.proofs.Settles.{in_or_not}
 use Rattle.qn_pair.specs.Jobs.{JobValue, tuples_of, task_block, Passes, cost_of_job, ArePriced}
 use Rattle.qn_pair.specs.Work.{numbers, IsResult}
 use Rattle.qn_pair.specs.Workers.{IsFresh, IsShared, IsAll, IsComplete, IsClear, IsFirst, IsOutcome}
-use Rattle.qn_pair.proofs.Loops.{all_rest}
+use Rattle.qn_pair.proofs.Loops.{all_rest, below_once}
 
 -- a board's first seat has done nothing
 pub fresh_first : (w : ℕ) (s : SeatValue) → s ≡ first_seat w → IsFresh w s
@@ -85,3 +85,10 @@ outcome_is j w n cost s ds least shared all some count few none first seen dealt
 pub price_all : (j : JobValue) (w n next cost : ℕ) (s : SeatValue) → ArePriced j → IsShared j w s cost → n ≡ length (tuples_of j) → IsEachBelow (min next n) s.drawn → cost ≤ cost_of_job j
 price_all j w n next cost s priced shared count dealt =
     omega (arith, shared.price, priced.all s.drawn (λ t. omega (arith, dealt t, below_less t (min next n) (length (tuples_of j)) (omega (arith, count)))))
+
+-- the arms of an outcome
+pub outcome_first : (j : JobValue) (least : Option ℕ) (ds : List (ℕ × BlockValue)) (t : ℕ) → least ≡ Some t → IsOutcome j least ds → IsFirst j t
+outcome_first j least ds t e o = subst (λ (p : Option ℕ). IsOutcome j p ds) e o
+
+pub outcome_clear : (j : JobValue) (least : Option ℕ) (ds : List (ℕ × BlockValue)) → least ≡ None → IsOutcome j least ds → IsClear j ds
+outcome_clear j least ds e o = subst (λ (p : Option ℕ). IsOutcome j p ds) e o

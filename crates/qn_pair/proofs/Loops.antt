@@ -9,9 +9,16 @@ use Rattle.std.proofs.lemmas.List.Elements.{All-nil, All-cons, All-append}
 use Rattle.qn_value.specs.Tensors.{BlockValue}
 use Rattle.qn_board.specs.Lists.{occurrences, IsIn, once_below}
 use Rattle.qn_board.specs.Seats.{SeatValue}
-use Rattle.qn_board.proofs.Counting.{occurrences-append, in_either, in_left, in_right, in_one, one_in, below_once}
+use Rattle.qn_board.proofs.Counting.{occurrences-append, in_either, in_left, in_right, in_one}
 use Rattle.qn_pair.specs.Jobs.{JobValue, tuples_of, task_block, Passes, share_at, ArePriced}
 use Rattle.qn_pair.specs.Work.{numbers, IsResult, IsWorked, IsCovered, IsAscending, IsTouched, IsOne}
+
+-- a number stands in the list that has it alone, and one below n counts once
+pub one_in : (t : ℕ) → IsIn t (t ∷ [])
+one_in t = grind (arith, nat_tests)
+
+pub below_once : (x n : ℕ) → x < n → once_below x n ≡ 1
+below_once x n h = grind (arith, nat_tests)
 
 -- ---- the numbers of a list, weighed
 

@@ -1,6 +1,6 @@
 -- The blocks of the tasks of a contraction.
 use Rattle.std.proofs.Common.{◌≡◌, ◌≤◌, ◌<◌, ℕ, zero, suc, ◌+◌, ◌*◌, ℤ, Bool, ◌&&◌, None, Some, List, [], ◌∷◌, ◌++◌, refl, sym, ◌∙◌, ap, ap₂, subst, map, length, get_or, add-zero, zero-add, arith}
-use Rattle.std.specs.Prelude.{Result, Ok, Err, IfOk, IfErr, OnOk}
+use Rattle.std.specs.Prelude.{Option, Result, Ok, Err, IfOk, IfErr, OnOk, MatchOption}
 use Rattle.std.specs.List.{All, range_with_len, flat_map, sum_by}
 use Rattle.std.proofs.Math.Nat.{mul-add}
 use Rattle.std.proofs.lemmas.List.Sums.{sum_by-cons}
@@ -38,6 +38,13 @@ if_ok P Q (Err e) f h = tt
 pub if_err : {A E : Type 0} (P Q : E → Type 0) (r : Result A E) → ((x : E) → P x → Q x) → IfErr r P → IfErr r Q
 if_err P Q (Ok x) f h = tt
 if_err P Q (Err e) f h = f e h
+
+-- the arms of a search
+pub found_none : {A : Type 0} (p : Option A) (P : Type 0) (Q : A → Type 0) → p ≡ None → MatchOption p P Q → P
+found_none p P Q e h = subst (λ q. MatchOption q P Q) e h
+
+pub found_some : {A : Type 0} (p : Option A) (P : Type 0) (Q : A → Type 0) (x : A) → p ≡ Some x → MatchOption p P Q → Q x
+found_some p P Q x e h = subst (λ q. MatchOption q P Q) e h
 
 -- ---- the pairs of a task
 

@@ -35,7 +35,6 @@ fn tick_all<L: Ledger>(count: u64, steps: &mut Steps<L>)
 
 /// The work of so many workers, this thread among them: the least task that passes, or none and the blocks of all tasks with
 /// their numbers.
-#[tactic(none)]
 fn worked<const K: usize, R: Threads + Sync, G: Gate, L: Ledger>(
     rt: &R,
     alloc: Global,
@@ -62,7 +61,6 @@ fn worked<const K: usize, R: Threads + Sync, G: Gate, L: Ledger>(
 }
 
 /// The blocks of all tasks with their numbers, or the first place that passes.
-#[tactic(none)]
 fn all_blocks<const K: usize, R: Threads + Sync, G: Gate, L: Ledger>(
     rt: &R,
     alloc: Global,
@@ -98,7 +96,6 @@ fn all_blocks<const K: usize, R: Threads + Sync, G: Gate, L: Ledger>(
 ///
 /// Passed where a sum of products of magnitudes is above 2^127 - 1, at the first such place, whatever the sum itself is.
 /// Each multiplication is one of `steps`.
-#[tactic(none)]
 pub fn contract<const K: usize, R: Threads + Sync, G: Gate, L: Ledger>(
     rt: &R,
     alloc: Global,

@@ -320,7 +320,8 @@ impl<'a, const K: usize> Frame<'a, K> {
         job.known();
         let sources = self.sources(task)?;
         let size = self.size(task);
-        match first_above(self.alloc, &sources, size)? {
+        let found = first_above(self.alloc, &sources, size)?;
+        match found {
             Some(offset) => {
                 let at = job.task(task).out.copy()?;
                 Ok(StepFault::Passed { at, offset })

@@ -2,9 +2,9 @@ use Rattle.std.proofs.Common.{◌≡◌, ◌<◌, ◌≤◌, ◌+◌, ℕ, List,
 use Rattle.qn_value.specs.Tensors.{BlockValue}
 use Rattle.qn_board.specs.Lists.{IsIn}
 use Rattle.qn_board.specs.Seats.{SeatValue}
-use Rattle.qn_board.proofs.Counting.{in_right, one_in}
+use Rattle.qn_board.proofs.Counting.{in_right}
 use Rattle.qn_pair.specs.Jobs.{tuples_of, share_at}
-use Rattle.qn_pair.proofs.Loops.{IsLoop, loop_first, loop_moved, loop_more, price_fits, nearer}
+use Rattle.qn_pair.proofs.Loops.{one_in, IsLoop, loop_first, loop_moved, loop_more, price_fits, nearer}
 use Rattle.qn_pair.proofs.worker.work_on.Goals as goal
 
 pub loop-task-init : goal.loop-task-init

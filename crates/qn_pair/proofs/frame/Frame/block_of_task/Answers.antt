@@ -1,4 +1,4 @@
-use Rattle.std.proofs.Common.{◌≡◌, ◌∙◌, ap, sym, subst, lit<}
+use Rattle.std.proofs.Common.{◌≡◌, ◌∙◌, ap, sym, subst}
 use Rattle.qn_match.specs.Pairs.{TaskValue}
 use Rattle.qn_kernel.specs.Sources.{AreSources}
 use Rattle.qn_pair.specs.Jobs.{JobValue, IsKnown, tuple_at}
@@ -34,6 +34,5 @@ returns-clause-steps g c =
     (block_made c.args.self.now c.args.task known.first known.second known.pair (listed_tuple c.args.self.now c.args.task known.pair c.requires).admissible.tuple c.deref.result.now (c.deref.ensures.value ∙ c.in_ok-sources.ensures.value) c.size-size.result c.size-size.ensures.value c.behind-job.inside.out out
     c.block_from.result c.block_from.ensures.block c.block_from.ensures.clear c.block_from.ensures.err c.block_from.new.steps c.args.steps.now c.block_from.ensures.steps).steps_are
 
-pub block_from-requires : goal.block_from-requires
-block_from-requires g c =
-    (lit< tt, (subst (λ q. q) (λ i. AreSources (sym c.size-size.ensures.value i) (sym c.deref.ensures.value i)) c.in_ok-sources.ensures.small, c.size-size.ensures.small))
+pub block_from-requires-clause-sources : goal.block_from-requires-clause-sources
+block_from-requires-clause-sources g c = subst (λ q. q) (λ i. AreSources (sym c.size-size.ensures.value i) (sym c.deref.ensures.value i)) c.in_ok-sources.ensures.small
