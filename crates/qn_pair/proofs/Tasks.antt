@@ -39,6 +39,9 @@ pub if_err : {A E : Type 0} (P Q : E → Type 0) (r : Result A E) → ((x : E) �
 if_err P Q (Ok x) f h = tt
 if_err P Q (Err e) f h = f e h
 
+pub in_ok : {A E : Type 0} (P : A → Type 0) (r : Result A E) (x : A) → r ≡ Ok x → IfOk r P → P x
+in_ok P r x e h = subst (λ q. IfOk q P) e h
+
 -- the arms of a search
 pub found_none : {A : Type 0} (p : Option A) (P : Type 0) (Q : A → Type 0) → p ≡ None → MatchOption p P Q → P
 found_none p P Q e h = subst (λ q. MatchOption q P Q) e h

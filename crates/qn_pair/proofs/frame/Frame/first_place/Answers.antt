@@ -19,5 +19,5 @@ returns g c =
       place_made c.args.self.now c.args.task known.first known.second known.pair (listed_tuple c.args.self.now c.args.task known.pair c.requires.task).admissible.tuple c.deref.result.now (c.deref.ensures.value ∙ c.in_ok-sources.ensures.value) c.size-size.result c.size-size.ensures.value c.in-Some.offset (found_some c.in_ok-found.found _ _ c.in-Some.offset c.in-Some.is c.in_ok-found.ensures),
     )
 
-pub first_above-found-requires-clause-sources : goal.first_above-found-requires-clause-sources
-first_above-found-requires-clause-sources g c = subst (λ q. q) (λ i. AreSources (sym c.size-size.ensures.value i) (sym c.deref.ensures.value i)) c.in_ok-sources.ensures.small
+pub first_above-requires-clause-sources : goal.first_above-requires-clause-sources
+first_above-requires-clause-sources g c = subst (λ q. q) (λ i. AreSources (sym c.size-size.ensures.value i) (sym c.deref.ensures.value i)) c.in_ok-sources.ensures.small
