@@ -1,11 +1,12 @@
-use Rattle.std.proofs.Common.{◌≡◌, ◌≤◌, ◌+◌, refl, sym, ◌∙◌, ap, subst, lit<, ℕ, List, None}
+use Rattle.std.proofs.Common.{rules, ◌≡◌, ◌≤◌, ◌+◌, refl, sym, ◌∙◌, ap, subst, lit<, ℕ, List, None}
 use Rattle.std.specs.List.{All}
 use Rattle.qn_charge.specs.Charges.{sum_charge}
 use Rattle.qn_index.specs.Legs.{LegValue}
 use Rattle.qn_value.specs.Tensors.{BlockValue, IsBlock, AreAscending, entry_in}
 use Rattle.qn_block.specs.Blocked.{MeetFlux}
-use Rattle.qn_pair.specs.Steps.{result_legs, result_flux, IsEntry}
-use Rattle.qn_pair.specs.Jobs.{JobValue, IsKnown, job, legs_of}
+use Rattle.qn_block.specs.Steps.{IsStepFault}
+use Rattle.qn_pair.specs.Steps.{result_legs, result_flux, passing_place, IsEntry}
+use Rattle.qn_pair.specs.Jobs.{JobValue, IsKnown, job, legs_of, passing_of_job}
 use Rattle.qn_pair.specs.Workers.{kept_blocks}
 use Rattle.qn_pair.proofs.Called.{are_added, blocked_result, called}
 use Rattle.qn_pair.proofs.Kept.{kept_ascend, kept_are_blocks, kept_answer}
@@ -39,3 +40,12 @@ returns-clause-value g c =
     (subst AreAscending (sym c.in_ok-blocks.ensures) (kept_ascend j h))
     (subst (λ (bs : List BlockValue). (xs : List ℕ) → MeetFlux c.args.a.now.group (result_legs c.args.a.now c.args.b.now c.args.shared.now) (result_flux c.args.a.now c.args.b.now) xs → IsEntry c.args.a.now c.args.b.now c.args.shared.now c.args.between_odd xs (entry_in (result_legs c.args.a.now c.args.b.now c.args.shared.now) bs xs)) (sym c.in_ok-blocks.ensures) (kept_answer j h))
     c.of_blocks.ensures
+
+pub returns-in_err-done-clause-err : goal.returns-in_err-done-clause-err
+returns-in_err-done-clause-err g c =
+    let first : passing_of_job c.in_ok-frame.frame ≡ passing_place c.args.a.now c.args.b.now c.args.shared.now = ap passing_of_job c.in_ok-frame.ensures in
+    let there : IsStepFault (passing_place c.args.a.now c.args.b.now c.args.shared.now) c.in_err-done.field-0.0 = subst (λ p. IsStepFault p c.in_err-done.field-0.0) first c.in_err-done.ensures.err in
+    search (rules, there)
+
+pub returns-clause-clear : goal.returns-clause-clear
+returns-clause-clear g c = sym (ap passing_of_job c.in_ok-frame.ensures) ∙ c.in_ok-done.ensures.clear

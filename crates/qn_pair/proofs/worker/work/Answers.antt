@@ -4,13 +4,9 @@ use Rattle.qn_pair.proofs.Listed.{list_long}
 use Rattle.qn_pair.proofs.Loops.{idle}
 use Rattle.qn_pair.proofs.worker.work.Goals as goal
 
-pub work_on-requires : goal.work_on-requires
-work_on-requires g c = record {
-  here = c.requires.here;
-  unspent = c.requires.unspent;
-  count =
-      c.requires.count ∙ list_long (job c.args.a.now c.args.b.now c.args.shared.now c.args.between_odd) c.args.tasks.now (record { pair = c.requires.pair; tasks_are = c.requires.tasks_are }) ∙ sym (ap (λ (j : JobValue). length (tuples_of j)) c.in-Ok.ensures);
-}
+pub work_on-requires-clause-count : goal.work_on-requires-clause-count
+work_on-requires-clause-count g c κs within =
+    c.requires.count ∙ list_long (job c.args.a.now c.args.b.now c.args.shared.now c.args.between_odd) c.args.tasks.now (record { pair = c.requires.pair; tasks_are = c.requires.tasks_are }) ∙ sym (ap (λ (j : JobValue). length (tuples_of j)) c.in-Ok.ensures)
 
 pub invariant_of-job : goal.invariant_of-job
 invariant_of-job g c = record { pair = c.requires.pair; tasks_are = c.requires.tasks_are }
