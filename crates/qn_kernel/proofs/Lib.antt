@@ -1,5 +1,11 @@
 pub mod Axes
-pub mod Both
-pub mod Capped
+pub mod Bounds
 pub mod Frames
-mod Zeros
+pub mod Laid
+pub mod Layouts
+pub mod Parts
+pub mod Places
+pub mod Rows
+pub mod Shared
+pub mod Splits
+pub mod Starts

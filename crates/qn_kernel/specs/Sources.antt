@@ -1,7 +1,7 @@
 -- A contraction of two tensors block by block, by strides.
 -- Fishman, White and Stoudenmire 2022.
-use Rattle.std.specs.Prelude.{◌≡◌, ◌==◌, ◌≤◌, ◌<◌, ◌^◌, ℕ, ◌+◌, ◌*◌, Bool, List, [], ◌∷◌, ◌++◌, length, map, replicate, slice_index_or}
-use Rattle.std.specs.List.{All, sum_by}
+use Rattle.std.specs.Prelude.{◌≡◌, ◌==◌, ◌≤◌, ◌<◌, ◌^◌, ℕ, ◌+◌, ◌*◌, Bool, true, false, List, [], ◌∷◌, ◌++◌, length, map, replicate, take, drop, slice_index_or}
+use Rattle.std.specs.List.{All, sum_by, flat_map}
 use Rattle.qn_sign.specs.Positions.{positions, is_odd_at}
 use Rattle.qn_sign.specs.Sign.{exchange_sign, xor}
 use Rattle.qn_gauss.specs.Gaussian.{Gaussian, zero_g, mul_g, mag, limit, signed}
@@ -69,6 +69,18 @@ pub record SourceValue : Type 0 where
   pub first_kept : List KeptValue
   pub second_kept : List KeptValue
   pub paired : List PairedValue
+  pub rows : ℕ
+  pub cols : ℕ
+
+-- how far apart the entries of neighbouring values stand in the first block, and in the second
+abbrev pub stride_in : Bool → PairedValue → ℕ
+stride_in false x = x.first
+stride_in true x = x.second
+
+-- the places of a block's entries at all values of the shared pairs, from a place on
+abbrev pub shared_places : (PairedValue → ℕ) → List PairedValue → ℕ → List ℕ
+shared_places w [] p = p ∷ []
+shared_places w (x ∷ xs) p = flat_map (λ v. shared_places w xs (p + v * w x)) (positions x.len)
 
 -- two blocks for the result's block at a tuple; all signs are turned where `turned` holds
 abbrev pub source_of : List Factor → List LegValue → List LegValue → List (ℕ × ℕ) → Bool → List LegValue → List ℕ → BlockValue → BlockValue → SourceValue
@@ -82,6 +94,8 @@ source_of fs ks ls shared turned rs ss x y =
       first_kept = kept_axes (strides ks x.tuple) rs ss (open_places cs (length word));
       second_kept = kept_axes (replicate (length ks) 0 ++ strides ls y.tuple) rs ss (open_places cs (length word));
       paired = paired_axes ks x.tuple (strides ks x.tuple) (strides ls y.tuple) shared;
+      rows = block_size (take (length (open_places cs (length ks))) rs) (take (length (open_places cs (length ks))) ss);
+      cols = block_size (drop (length (open_places cs (length ks))) rs) (drop (length (open_places cs (length ks))) ss);
     }
 
 -- the pairs of blocks at these positions
@@ -112,17 +126,26 @@ products xs = sum_by (λ x. all_values x.paired) xs
 abbrev pub IsPaired : PairedValue → Type 0
 IsPaired x = (x.len ≤ 2 ^ 16) × (x.first ≤ 2 ^ 22) × (x.second ≤ 2 ^ 22)
 
-pub record IsSource (x : SourceValue) : Type 0 where
+pub record IsSource (rows cols : ℕ) (x : SourceValue) : Type 0 where
   pub few_first : length x.first_kept ≤ 64
   pub few_second : length x.second_kept ≤ 64
   pub few_paired : length x.paired ≤ 64
   pub first : All IsKept x.first_kept
   pub second : All IsKept x.second_kept
   pub paired : All IsPaired x.paired
+  pub few_rows : rows ≤ 2 ^ 22
+  pub few_cols : cols ≤ 2 ^ 22
+  pub rows_are : x.rows ≡ rows
+  pub cols_are : x.cols ≡ cols
+  pub row_start : (i j : ℕ) → i < rows → j < cols → start_of x.first_kept (i * cols + j) ≡ start_of x.first_kept (i * cols)
+  pub col_start : (i j : ℕ) → i < rows → j < cols → start_of x.second_kept (i * cols + j) ≡ start_of x.second_kept j
 
 -- pairs of blocks for one block of the result, with so many entries
-abbrev pub AreSources : ℕ → List SourceValue → Type 0
-AreSources len xs = All IsSource xs
+pub record AreSources (len : ℕ) (xs : List SourceValue) : Type 0 where
+  pub rows : ℕ
+  pub cols : ℕ
+  pub len_is : rows * cols ≡ len
+  pub all : All (IsSource rows cols) xs
 
 -- what all blocks of a contraction have in common: the word of the legs of both tensors, the places of the goal and of the legs that stay open, and those legs
 pub record IsFrame (ks ls : List LegValue) (shared : List (ℕ × ℕ)) (word : List LegValue) (goal places : List ℕ) (left : List LegValue) : Type 0 where
@@ -140,13 +163,13 @@ pub record IsFrame (ks ls : List LegValue) (shared : List (ℕ × ℕ)) (word : 
 abbrev pub IsReadable : List LegValue → BlockValue → Type 0
 IsReadable ls b = IsTuple ls b.tuple × (block_size ls b.tuple ≤ 4194304)
 
--- the first entry of a block whose sum of magnitudes is above 2^127 - 1
-abbrev pub IsPassing : List SourceValue → List ℕ → ℕ → StepFault → Type 0
-IsPassing xs t len (Passed at offset) = (at ≡ t) × (offset < len) × (limit < size_sum xs offset) × ((j : ℕ) → j < offset → size_sum xs j ≤ limit)
-IsPassing xs t len Memory = Unit {0}
-
 -- the first entry of a block whose sum of magnitudes is above 2^127 - 1 is this one
 pub record IsFirstAbove (xs : List SourceValue) (len o : ℕ) : Type 0 where
   pub inside : o < len
   pub above : limit < size_sum xs o
   pub before : (j : ℕ) → j < o → size_sum xs j ≤ limit
+
+-- the first entry of a block whose sum of magnitudes is above 2^127 - 1
+abbrev pub IsPassing : List SourceValue → List ℕ → ℕ → StepFault → Type 0
+IsPassing xs t len (Passed at offset) = (at ≡ t) × (offset < len) × (limit < size_sum xs offset) × ((j : ℕ) → j < offset → size_sum xs j ≤ limit)
+IsPassing xs t len Memory = Unit {0}

@@ -1,12 +1,14 @@
 //! The blocks of a contraction: sums of products of pairs of blocks.
 #![tactic(auto)]
 
+mod bound;
+mod layout;
+mod matrix;
+mod number;
 mod paired;
-mod sizes;
+mod product;
+mod row;
 mod source;
-mod sum;
 
 pub use paired::Paired;
-pub use sizes::first_above;
-pub use source::{block_from, sources_of};
-pub use sum::Source;
+pub use source::{Source, block_from, first_above, sources_of};

@@ -1,5 +1,5 @@
 use Rattle.std.proofs.Common.{rules, get_or}
-use Rattle.qn_kernel.proofs.Frames.{gathered_more}
+use Rattle.qn_kernel.proofs.Frames.{gathered_more, gathered_shape}
 use Rattle.qn_kernel.proofs.source.sources_of.Goals as goal
 
 pub loop-pair-preserved : goal.loop-pair-preserved
@@ -10,3 +10,7 @@ loop-pair-preserved g c =
       gathered_more c.args.group.now c.args.firsts.now c.args.seconds.now c.args.shared.now c.args.turned c.args.left.now c.args.sectors.now c.args.xs.now c.args.ys.now c.args.pairs.now c.loop-pair.pair-index
           c.index-xs-pair.result c.index-ys-pair.result c.in_ok-source.source c.loop-pair.sources.items c.loop-pair-test.true (search rules) (search rules) (search rules) (search rules) c.in_ok-source.ensures.value c.in_ok-source.ensures.small c.loop-pair.invariant,
     )
+
+pub returns-clause-small : goal.returns-clause-small
+returns-clause-small g c =
+    gathered_shape c.args.group.now c.args.firsts.now c.args.seconds.now c.args.shared.now c.args.turned c.args.left.now c.args.sectors.now c.args.xs.now c.args.ys.now c.args.pairs.now c.loop-pair.pair-index c.loop-pair.sources.items c.requires.sectors c.loop-pair.invariant
