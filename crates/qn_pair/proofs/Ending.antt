@@ -11,7 +11,8 @@ use Rattle.qn_board.proofs.Settles.{in_or_not}
 use Rattle.qn_pair.specs.Jobs.{JobValue, tuples_of, task_block, Passes, cost_of_job, ArePriced}
 use Rattle.qn_pair.specs.Work.{numbers, IsResult}
 use Rattle.qn_pair.specs.Workers.{IsFresh, IsShared, IsAll, IsComplete, IsClear, IsFirst, IsOutcome}
-use Rattle.qn_pair.proofs.Loops.{all_rest, below_once}
+use Rattle.qn_pair.proofs.Loops.{below_once}
+use Rattle.qn_value.proofs.PlacedLemmas.{all_others}
 
 -- a board's first seat has done nothing
 pub fresh_first : (w : ℕ) (s : SeatValue) → s ≡ first_seat w → IsFresh w s
@@ -20,7 +21,7 @@ fresh_first w s e = subst (IsFresh w) (sym e) (record { weight_is = refl; spent 
 result_clear : (j : JobValue) (xs : List ℕ) (ds : List (ℕ × BlockValue)) (t : ℕ) → All (IsResult j xs) ds → IsIn t (numbers ds) → ¬ Passes j t
 result_clear j xs [] t h has = absurd (omega arith)
 result_clear j xs (d ∷ ds) t h has =
-    ⊎_elim (λ a. subst (λ (v : ℕ). ¬ Passes j v) (in_one t d.0 a) (h 0 d (omega arith)).clear) (λ a. result_clear j xs ds t (all_rest (IsResult j xs) d ds h) a) (in_either t (d.0 ∷ []) (numbers ds) has)
+    ⊎_elim (λ a. subst (λ (v : ℕ). ¬ Passes j v) (in_one t d.0 a) (h 0 d (omega arith)).clear) (λ a. result_clear j xs ds t (all_others (IsResult j xs) d ds h) a) (in_either t (d.0 ∷ []) (numbers ds) has)
 
 -- the seat that has the whole weight, with the results of all workers
 pub record IsOver (j : JobValue) (s : SeatValue) (ds : List (ℕ × BlockValue)) : Type 0 where

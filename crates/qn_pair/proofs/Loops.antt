@@ -12,6 +12,7 @@ use Rattle.qn_board.specs.Seats.{SeatValue}
 use Rattle.qn_board.proofs.Counting.{occurrences-append, in_either, in_left, in_right, in_one}
 use Rattle.qn_pair.specs.Jobs.{JobValue, tuples_of, task_block, Passes, share_at, ArePriced}
 use Rattle.qn_pair.specs.Work.{numbers, IsResult, IsWorked, IsCovered, IsAscending, IsTouched, IsOne}
+use Rattle.qn_value.proofs.PlacedLemmas.{all_others}
 
 -- a number stands in the list that has it alone, and one below n counts once
 pub one_in : (t : ℕ) → IsIn t (t ∷ [])
@@ -131,9 +132,6 @@ done_one j t seen c fails block = record {
 pub results_more : (j : JobValue) (xs ys : List ℕ) (ds : List (ℕ × BlockValue)) → ((x : ℕ) → IsIn x xs → IsIn x ys) → All (IsResult j xs) ds → All (IsResult j ys) ds
 results_more j xs ys ds sub h k d l = let r = h k d l in record { drawn_it = sub _ r.drawn_it; clear = r.clear; block = r.block }
 
-pub all_rest : {A : Type 0} (P : A → Type 0) (x : A) (xs : List A) → All P (x ∷ xs) → All P xs
-all_rest P x xs h k d l = h (suc k) d (omega arith)
-
 pub numbers-append : (ds es : List (ℕ × BlockValue)) → numbers (ds ++ es) ≡ numbers ds ++ numbers es
 numbers-append [] es = refl
 numbers-append (d ∷ ds) es = ap (λ xs. d.0 ∷ xs) (numbers-append ds es)
@@ -146,7 +144,7 @@ ascending-append (x ∷ xs) ys h k less = ((λ y has. ⊎_elim (λ a. h.0 y a) (
 result_drawn : (j : JobValue) (xs : List ℕ) (ds : List (ℕ × BlockValue)) (x : ℕ) → All (IsResult j xs) ds → IsIn x (numbers ds) → IsIn x xs
 result_drawn j xs [] x h has = absurd (omega arith)
 result_drawn j xs (d ∷ ds) x h has =
-    ⊎_elim (λ a. subst (λ (v : ℕ). IsIn v xs) (in_one x d.0 a) (h 0 d (omega arith)).drawn_it) (λ a. result_drawn j xs ds x (all_rest (IsResult j xs) d ds h) a) (in_either x (d.0 ∷ []) (numbers ds) has)
+    ⊎_elim (λ a. subst (λ (v : ℕ). IsIn v xs) (in_one x d.0 a) (h 0 d (omega arith)).drawn_it) (λ a. result_drawn j xs ds x (all_others (IsResult j xs) d ds h) a) (in_either x (d.0 ∷ []) (numbers ds) has)
 
 -- what a worker has done so far
 pub record IsLoop (j : JobValue) (before now : SeatValue) (cost : ℕ) (ds : List (ℕ × BlockValue)) (new gained : List ℕ) : Type 0 where

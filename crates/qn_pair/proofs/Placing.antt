@@ -20,12 +20,6 @@ pub record IsPlaced (j : JobValue) (ds : List (ℕ × BlockValue)) (row : List (
   pub size : length row ≡ length (tuples_of j)
   pub there : (t : ℕ) → IsIn t (numbers ds) → get_or row t None ≡ slot_of j t
 
-pub placed_first : (j : JobValue) (n : ℕ) (row : List (Option BlockValue)) → n ≡ length (tuples_of j) → row ≡ replicate n None → IsPlaced j [] row
-placed_first j n row e f = record {
-  size = ap (λ (xs : List (Option BlockValue)). length xs) f ∙ length-replicate {A = Option BlockValue} n None ∙ e;
-  there = λ t h. absurd (omega (arith, h));
-}
-
 pub placed_more : (j : JobValue) (d : ℕ × BlockValue) (ds : List (ℕ × BlockValue)) (row : List (Option BlockValue)) (v : Option BlockValue) → d.0 < length (tuples_of j) → v ≡ slot_of j d.0 → IsPlaced j ds row → IsPlaced j (d ∷ ds) (set row d.0 v)
 placed_more j d ds row v lt is p = record { size = length-set row d.0 v ∙ p.size; there = λ t h. go t (t == d.0) refl h }
   where
