@@ -1,7 +1,6 @@
 -- The values of a fused leg stand for the pairs of values of two legs, each pair once.
 use Rattle.std.proofs.Common.{◌≡◌, ◌<◌, ◌==◌, ℕ, zero, suc, Bool, true, false, ◌&&◌, List, [], ◌∷◌, length, get_or, refl, sym, ◌∙◌, ap, subst, arith}
 use mathlib.Core.Path.{fun_ext}
-use Rattle.std.proofs.lemmas.Bool.{false≢true}
 use Rattle.std.proofs.lemmas.Bool.Decides.{nat_tests}
 use Rattle.qn_gauss.specs.Gaussian.{Gaussian}
 use Rattle.qn_charge.specs.declared.factor.Factor.{Factor}

@@ -1,5 +1,5 @@
 -- The step for each kind of site.
-use Rattle.std.proofs.Common.{◌≡◌, ◌<◌, ℕ, Bool, true, false, List, [], ◌∷◌, ◌++◌, map, length, sym, ◌∙◌, ap, subst}
+use Rattle.std.proofs.Common.{◌≡◌, ◌<◌, ℕ, Bool, true, false, List, [], ◌∷◌, ◌++◌, map, length, ◌∙◌, ap, subst}
 use Rattle.qn_gauss.specs.Gaussian.{mul_g, signed}
 use Rattle.qn_charge.specs.declared.factor.Factor.{Factor}
 use Rattle.qn_index.specs.Legs.{SectorValue, LegValue, total, parity_at}
