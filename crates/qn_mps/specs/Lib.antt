@@ -3,3 +3,4 @@ pub mod Labels
 pub mod Networks
 pub mod Refusals
 pub mod SameNetworks
+pub mod StandardLinks

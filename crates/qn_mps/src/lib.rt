@@ -9,6 +9,7 @@ mod fault;
 mod labels;
 pub mod laws;
 mod network;
+mod standard;
 #[cfg(test)]
 mod tests;
 
