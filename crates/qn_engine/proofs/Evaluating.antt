@@ -1,14 +1,13 @@
--- The loop over all steps.
-use Rattle.std.proofs.Common.{◌≡◌, ◌≤◌, ◌<◌, ℕ, zero, suc, ◌+◌, Some, None, Option, List, [], ◌∷◌, refl, ◌∙◌, ap, subst, map, length, take, get_or, arith}
+-- The steps of a plan from one place to another.
+use Rattle.std.proofs.Common.{◌≡◌, ◌≤◌, ◌<◌, ℕ, zero, suc, ◌+◌, Some, None, Option, List, [], ◌∷◌, refl, ◌∙◌, ap, subst, map, length, take, drop, get_or, ◌-◌, sym, arith}
 use Rattle.std.specs.List.{sum_by}
-use Rattle.std.proofs.lemmas.List.{length-map}
-use Rattle.std.proofs.lemmas.List.Sums.{sum_by-append, sum_by-cons, sum_by-take-drop}
-use Rattle.qn_net.specs.Steps.{Step}
+use Rattle.std.proofs.lemmas.List.{length-map, length-drop, get_or-drop, take_all}
+use Rattle.std.proofs.lemmas.List.Sums.{sum_by-append, sum_by-cons}
 use Rattle.qn_net.specs.NetworkValues.{NetworkValue, IsWellFormed, parities, sectors, steps, passing_place}
 use Rattle.qn_net.specs.Passing.{first_admissible_step}
-use Rattle.qn_plan.specs.Planned.{StepValue, planned_step, planned, cost_of_step, cost_of_plan, first_wide}
+use Rattle.qn_plan.specs.Planned.{StepValue, planned_step, planned, first_wide}
 use Rattle.qn_engine.specs.Parts.{PartValue}
-use Rattle.qn_engine.specs.Carrying.{step_at, AreReady, IsCarried, IsNext, IsFinished, IsUnderWay}
+use Rattle.qn_engine.specs.Carrying.{step_at, AreReady, IsCarried, IsNext, IsFinished, IsOnWay}
 use Rattle.qn_engine.proofs.Walking.{take_one}
 
 get_map : {A B : Type 0} (f : A → B) (xs : List A) (i : ℕ) (d : A) (e : B) → i < length xs → get_or (map f xs) i e ≡ f (get_or xs i d)
@@ -24,58 +23,83 @@ module _ (net : NetworkValue) (items : List StepValue) (eq : items ≡ planned n
   pub step_read : (i : ℕ) (s : StepValue) → i < length items → s ≡ get_or items i s → s ≡ planned_step net (step_at net i)
   step_read i s lt e = e ∙ ap (λ (ks : List StepValue). get_or ks i s) eq ∙ get_map (planned_step net) (steps net) i _ s (omega (arith, lt, many))
 
-  pub next_is : IsWellFormed net → (first_wide net ≡ None → AreReady net) → first_wide net ≡ None → passing_place net ≡ first_admissible_step (parities net) net.group (sectors net) 1 (steps net) →
-      (i : ℕ) (s : StepValue) (ps : List PartValue) (before now : ℕ) → i < length items → s ≡ get_or items i s → IsUnderWay net i ps before now → IsNext net i ps s
-  next_is w ready narrow place i s ps before now lt e u = record {
-    ready = ready narrow;
-    narrow = narrow;
-    place = place;
-    carried = u.carried;
-    within = omega (arith, lt, many);
-    step_is = step_read i s lt e;
-  }
-
-  module _ (i : ℕ) (s : StepValue) (ps : List PartValue) (before now later : ℕ) (lt : i < length items) (e : s ≡ get_or items i s) (u : IsUnderWay net i ps before now) (h : later ≤ now + s.cost) where
-    one : (f : Step → ℕ) (t : Step) → sum_by f (t ∷ []) ≡ f t
-    one f t = let p = sum_by-cons f t [] in omega (arith, p)
-
-    ticks_next : later ≤ before + sum_by (cost_of_step net) (take (i + 1) (steps net))
-    ticks_next =
-        let whole : sum_by (cost_of_step net) (take (i + 1) (steps net)) ≡ sum_by (cost_of_step net) (take i (steps net)) + cost_of_step net (step_at net i) =
-        ap (sum_by (cost_of_step net)) (take_one (steps net) i _ (omega (arith, lt, many)))
-        ∙ sum_by-append (cost_of_step net) (take i (steps net)) (step_at net i ∷ [])
-        ∙ ap (λ n. sum_by (cost_of_step net) (take i (steps net)) + n) (one (cost_of_step net) (step_at net i)) in
-        let cost : s.cost ≡ cost_of_step net (step_at net i) = ap (λ (z : StepValue). z.cost) (step_read i s lt e) in
-        let ticks : now ≤ before + sum_by (cost_of_step net) (take i (steps net)) = u.ticks in
-        omega (arith, whole, cost, ticks, h)
-
-    pub under_next : (qs : List PartValue) → IsCarried net (i + 1) qs → IsUnderWay net (i + 1) qs before later
-    under_next qs k = record { carried = k; ticks = ticks_next }
-
-    -- all steps cost no less
-    pub under_cost : later ≤ before + cost_of_plan net
-    under_cost = let p = sum_by-take-drop (cost_of_step net) (steps net) (i + 1) in omega (arith, ticks_next, p)
-
-  all_taken : take (length items) (steps net) ≡ steps net
-  all_taken = ap (λ n. take n (steps net)) many ∙ go (steps net)
-    where
-      go : (ts : List Step) → take (length ts) ts ≡ ts
-      go [] = refl
-      go (t ∷ ts) = ap (λ us. t ∷ us) (go ts)
-
-  -- what holds after the last step
-  pub record Ended (ps : List PartValue) (before now : ℕ) : Type 0 where
-    pub finished : IsFinished net ps
-    pub clear : first_admissible_step (parities net) net.group (sectors net) 1 (steps net) ≡ None
-    pub ticks : now ≤ before + cost_of_plan net
-
-  pub ended : IsWellFormed net → (i : ℕ) (ps : List PartValue) (before now : ℕ) → i ≡ length items → IsUnderWay net i ps before now → Ended ps before now
-  ended w i ps before now e u = record {
-    finished = record { formed = w; carried = subst (λ n. IsCarried net n ps) (e ∙ many) u.carried };
-    clear = subst (λ ts. first_admissible_step (parities net) net.group (sectors net) 1 ts ≡ None) (ap (λ n. take n (steps net)) e ∙ all_taken) u.carried.clear;
-    ticks = subst (λ ts. now ≤ before + sum_by (cost_of_step net) ts) (ap (λ n. take n (steps net)) e ∙ all_taken) u.ticks;
-  }
-
 -- no step is too wide, or one is
 pub never_wide : (o : Option ℕ) (n : ℕ) → o ≡ None → o ≡ Some n → ⊥
 never_wide o n e k = cc (e, k)
+
+-- on the way
+
+pub on_next : (net : NetworkValue) (items : List StepValue) (i : ℕ) (s : StepValue) (ps : List PartValue) → IsOnWay net items i ps → i < length items → s ≡ get_or items i s → IsNext net i ps s
+on_next net items i s ps w lt e = record {
+  ready = w.ready;
+  narrow = w.narrow;
+  place = w.place;
+  carried = w.carried;
+  within = subst (λ n. i < n) (many net items w.is) lt;
+  step_is = step_read net items w.is i s lt e;
+}
+
+pub on_more : (net : NetworkValue) (items : List StepValue) (i : ℕ) (ps qs : List PartValue) → IsOnWay net items i ps → IsCarried net (i + 1) qs → IsOnWay net items (i + 1) qs
+on_more net items i ps qs w c = record { is = w.is; ready = w.ready; narrow = w.narrow; place = w.place; carried = c }
+
+-- what some of the steps of a list cost
+abbrev pub costs : List StepValue → ℕ → ℕ → ℕ
+costs items from n = sum_by (λ t. t.cost) (take n (drop from items))
+
+pub costs_more : (items : List StepValue) (from i before now later : ℕ) (s : StepValue) → from ≤ i → i < length items → s ≡ get_or items i s → now ≤ before + costs items from (i - from) → later ≤ now + s.cost →
+    later ≤ before + costs items from (i + 1 - from)
+costs_more items from i before now later s le lt e h k =
+    let more = next items from i s le lt e in omega (arith, h, k, more)
+  where
+    one : (t : StepValue) → sum_by (λ (x : StepValue). x.cost) (t ∷ []) ≡ t.cost
+    one t = let p = sum_by-cons (λ (x : StepValue). x.cost) t [] in omega (arith, p)
+
+    first : (xs : List StepValue) (d : ℕ) (x : StepValue) → d < length xs → x ≡ get_or xs d x → sum_by (λ (t : StepValue). t.cost) (take (d + 1) xs) ≡ sum_by (λ (t : StepValue). t.cost) (take d xs) + x.cost
+    first xs d x l q =
+        ap (sum_by (λ (t : StepValue). t.cost)) (take_one xs d x l) ∙ sum_by-append (λ (t : StepValue). t.cost) (take d xs) (get_or xs d x ∷ [])
+        ∙ ap (λ n. sum_by (λ (t : StepValue). t.cost) (take d xs) + n) (one (get_or xs d x) ∙ ap (λ (t : StepValue). t.cost) (sym q))
+
+    next : (items : List StepValue) (from i : ℕ) (s : StepValue) → from ≤ i → i < length items → s ≡ get_or items i s → costs items from (i + 1 - from) ≡ costs items from (i - from) + s.cost
+    next items from i s le lt e =
+        ap (costs items from) (omega (arith, le))
+        ∙ first (drop from items) (i - from) s (let l = length-drop from items in omega (arith, l, lt, le)) (e ∙ sym (get_or-drop from items (i - from) s ∙ ap (λ k. get_or items k s) (omega (arith, le))))
+
+-- fewer steps cost no more
+pub costs_less : (items : List StepValue) (from m n : ℕ) → m ≤ n → costs items from m ≤ costs items from n
+costs_less items from m n h = go (drop from items) m n h
+  where
+    go : (xs : List StepValue) (m n : ℕ) → m ≤ n → sum_by (λ (t : StepValue). t.cost) (take m xs) ≤ sum_by (λ (t : StepValue). t.cost) (take n xs)
+    go [] zero n h = let a = none n in omega (arith, a)
+      where
+        none : (n : ℕ) → sum_by (λ (t : StepValue). t.cost) (take 0 []) ≤ sum_by (λ (t : StepValue). t.cost) (take n [])
+        none zero = omega arith
+        none (suc n) = omega arith
+    go [] (suc m) zero h = absurd (omega (arith, h))
+    go [] (suc m) (suc n) h = omega arith
+    go (x ∷ xs) zero n h = omega arith
+    go (x ∷ xs) (suc m) zero h = absurd (omega (arith, h))
+    go (x ∷ xs) (suc m) (suc n) h =
+        let p = sum_by-cons (λ (t : StepValue). t.cost) x (take m xs) in
+        let q = sum_by-cons (λ (t : StepValue). t.cost) x (take n xs) in
+        let r = go xs m n (omega (arith, h)) in
+        omega (arith, p, q, r)
+
+-- a network on its way from the start, and at its end
+pub on_start : (net : NetworkValue) (items : List StepValue) (ps : List PartValue) → items ≡ planned net → (first_wide net ≡ None → AreReady net) → first_wide net ≡ None →
+    passing_place net ≡ first_admissible_step (parities net) net.group (sectors net) 1 (steps net) → IsCarried net 0 ps → IsOnWay net items 0 ps
+on_start net items ps e ready narrow place c = record { is = e; ready = ready narrow; narrow = narrow; place = place; carried = c }
+
+pub on_end : (net : NetworkValue) (items : List StepValue) (ps : List PartValue) → IsWellFormed net → IsOnWay net items (length items) ps → IsFinished net ps
+on_end net items ps w k = record { formed = w; carried = subst (λ n. IsCarried net n ps) (many net items k.is) k.carried }
+
+pub clear_end : (net : NetworkValue) (items : List StepValue) (ps : List PartValue) → IsOnWay net items (length items) ps → passing_place net ≡ None
+clear_end net items ps k =
+    k.place ∙ subst (λ ts. first_admissible_step (parities net) net.group (sectors net) 1 ts ≡ None) (take_all (length items) (steps net) (let e = many net items k.is in omega (arith, e))) k.carried.clear
+
+-- in the terms of a program
+
+pub on_done : (net : NetworkValue) (items : List StepValue) (n : ℕ) (ps : List PartValue) → n ≡ length items → IsWellFormed net → IsOnWay net items n ps → IsFinished net ps
+on_done net items n ps e w k = on_end net items ps w (subst (λ i. IsOnWay net items i ps) e k)
+
+pub clear_done : (net : NetworkValue) (items : List StepValue) (n : ℕ) (ps : List PartValue) → n ≡ length items → IsOnWay net items n ps → passing_place net ≡ None
+clear_done net items n ps e k = clear_end net items ps (subst (λ i. IsOnWay net items i ps) e k)

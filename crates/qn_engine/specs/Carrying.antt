@@ -1,6 +1,5 @@
 -- How far the engine has come on its way through the steps of a network.
 use Rattle.std.specs.Prelude.{◌≡◌, ◌≤◌, ◌<◌, ◌+◌, ℕ, ℤ, Bool, false, Option, Some, None, List, [], ◌∷◌, length, take, slice_index_or}
-use Rattle.std.specs.List.{sum_by}
 use Rattle.qn_gauss.specs.Gaussian.{zero_g}
 use Rattle.qn_index.specs.Tuples.{admitted}
 use Rattle.qn_value.specs.Networks.{labels, odd_flux}
@@ -16,7 +15,7 @@ use Rattle.qn_net.specs.NetworkValues.{NetworkValue, parities, sectors, opens, b
 use Rattle.qn_net.specs.Members.{LabelledMember, IsHeld}
 use Rattle.qn_net.specs.Operations.{AreLines}
 use Rattle.qn_plan.specs.Shapes.{shape_of}
-use Rattle.qn_plan.specs.Planned.{StepValue, planned_step, cost_of_step, first_wide}
+use Rattle.qn_plan.specs.Planned.{StepValue, planned_step, planned, first_wide}
 use Rattle.qn_plan.specs.Conditions.{CanCost}
 use Rattle.qn_plan.specs.Reached.{IsFitting}
 use Rattle.qn_engine.specs.Parts.{PartValue, IsPartOf, ArePartsOf, IsSmallMember}
@@ -108,15 +107,18 @@ pub record IsNext (net : NetworkValue) (n : ℕ) (parts : List PartValue) (step 
   pub within : n < length (steps net)
   pub step_is : step ≡ planned_step net (step_at net n)
 
+-- the list is the plan of a network none of whose steps has a result that is too wide, and its first n steps are taken
+pub record IsOnWay (net : NetworkValue) (plan : List StepValue) (n : ℕ) (parts : List PartValue) : Type 0 where
+  pub is : plan ≡ planned net
+  pub ready : AreReady net
+  pub narrow : first_wide net ≡ None
+  pub place : passing_place net ≡ first_admissible_step (parities net) net.group (sectors net) 1 (steps net)
+  pub carried : IsCarried net n parts
+
 -- all steps of a network are taken
 pub record IsFinished (net : NetworkValue) (parts : List PartValue) : Type 0 where
   pub formed : IsWellFormed net
   pub carried : IsCarried net (length (steps net)) parts
-
--- after the first n steps, each of which took at most its cost
-pub record IsUnderWay (net : NetworkValue) (n : ℕ) (parts : List PartValue) (before now : ℕ) : Type 0 where
-  pub carried : IsCarried net n parts
-  pub ticks : now ≤ before + sum_by (cost_of_step net) (take n (steps net))
 
 -- what holds of the first n members
 pub record AreKnown (ms : List LabelledMember) (n : ℕ) : Type 0 where

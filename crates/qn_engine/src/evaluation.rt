@@ -1,7 +1,8 @@
-ghost use Rattle.std.specs.Prelude.{◌≡◌, ◌≤◌, ◌<◌, ◌+◌, ◌^◌, ℕ, length, Some, None, negsuc, IfOk, OnOk, IfErr};
+ghost use Rattle.std.specs.Prelude.{◌≡◌, ◌≤◌, ◌<◌, ◌+◌, ◌-◌, ◌^◌, ℕ, length, take, drop, Some, None, negsuc, IfOk, OnOk, IfErr};
+ghost use Rattle.std.specs.List.{sum_by};
 ghost use Rattle.qn_net.specs.NetworkValues.{NetworkValue, passing_place};
 ghost use Rattle.qn_plan.specs.Planned.{cost_of_plan, first_wide, planned as planned_steps};
-ghost use Rattle.qn_engine.specs.Carrying.{IsCarried, IsFinished};
+ghost use Rattle.qn_engine.specs.Carrying.{IsCarried, IsFinished, IsOnWay};
 ghost use Rattle.qn_engine.specs.Evaluated.{IsValueOf, IsCanonicalTensor, IsEngineFault};
 ghost use Rattle.qn_engine.specs.Labels.{open_places};
 
@@ -58,7 +59,7 @@ fn planned<const K: usize>(alloc: Global, net: &Network<K>) -> Result<Vec<Step>,
 }
 
 /// The members of the network as parts, before the first step.
-fn start<'a, const K: usize>(
+pub fn start<'a, const K: usize>(
     alloc: Global,
     net: &'a Network<K>,
 ) -> Result<Vec<Part<'a, K>>, AllocError>
@@ -71,7 +72,7 @@ fn start<'a, const K: usize>(
 }
 
 /// The last part with its legs in the order of the open labels.
-fn finished<'a, const K: usize, R: Threads + Sync>(
+pub fn finished<'a, const K: usize, R: Threads + Sync>(
     rt: &R,
     alloc: Global,
     parts: Vec<Part<'a, K>>,
@@ -91,6 +92,47 @@ fn finished<'a, const K: usize, R: Threads + Sync>(
     let order = open_order(alloc, &labels)?;
     let moved = permute(rt, alloc, last, &order)?;
     Ok(moved.canonical())
+}
+
+/// Carries out the steps of the plan from one place to another, on the parts that the steps before made. Each
+/// multiplication is one of `steps`.
+pub fn carry<'a, const K: usize, R: Threads + Sync, G: Gate, L: Ledger>(
+    rt: &R,
+    alloc: Global,
+    parts: &mut Vec<Part<'a, K>>,
+    planned: &[Step],
+    from: usize,
+    to: usize,
+    workers: u32,
+    gate: &G,
+    steps: &mut Steps<L>,
+) -> Result<(), EngineFault>
+    requires order { from ≤ to }
+    requires within { to ≤ length planned.now }
+    requires short { length planned.now ≤ 8448 }
+    requires some { 1 ≤ workers }
+    requires few { workers ≤ 64 }
+    requires way { (net : NetworkValue) × IsOnWay net planned.now from parts.old.items }
+    ensures carried { OnOk result ((net : NetworkValue) → IsOnWay net planned.now from parts.old.items → IsOnWay net planned.now to parts.new.items) }
+    ensures err { IfErr result (λ e. (net : NetworkValue) → IsOnWay net planned.now from parts.old.items → IsEngineFault net e) }
+    ensures steps { steps.new ≤ steps.old + sum_by (λ t. t.cost) (take (to - from) (drop from planned.now)) }
+{
+    for i in from..to {
+        match take_step(
+            rt,
+            alloc,
+            parts,
+            &planned[i],
+            i as u32,
+            workers,
+            gate,
+            steps,
+        ) {
+            Ok(()) => {}
+            Err(fault) => return Err(fault),
+        }
+    }
+    Ok(())
 }
 
 /// The value of the network: the signed sum over all values of its positive labels of the products of the members' entries,
@@ -144,13 +186,19 @@ pub fn evaluate_planned<const K: usize, R: Threads + Sync, G: Gate, L: Ledger>(
     net.known();
     known_steps(net);
     let mut parts = start(alloc, net)?;
-    for i in 0..plan.len() {
-        match take_step(
-            rt, alloc, &mut parts, &plan[i], i as u32, workers, gate, steps,
-        ) {
-            Ok(()) => {}
-            Err(fault) => return Err(fault),
-        }
+    match carry(
+        rt,
+        alloc,
+        &mut parts,
+        plan,
+        0,
+        plan.len(),
+        workers,
+        gate,
+        steps,
+    ) {
+        Ok(()) => {}
+        Err(fault) => return Err(fault),
     }
     Ok(finished(rt, alloc, parts)?)
 }

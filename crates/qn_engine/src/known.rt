@@ -60,7 +60,7 @@ fn known_members<const K: usize>(members: &[NetTensor<K>])
 }
 
 /// What holds of the steps of the network. Nothing is done.
-pub(crate) fn known_steps<const K: usize>(net: &Network<K>)
+pub fn known_steps<const K: usize>(net: &Network<K>)
     ensures ready { first_wide net.now ≡ None → AreReady net.now }
     ensures place { passing_place net.now ≡ first_admissible_step (parities net.now) net.now.group (sectors net.now) 1 (steps net.now) }
 {

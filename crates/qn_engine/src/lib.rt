@@ -11,5 +11,7 @@ mod steps;
 #[cfg(test)]
 mod tests;
 
-pub use evaluation::{evaluate, evaluate_planned};
+pub use evaluation::{carry, evaluate, evaluate_planned, finished, start};
 pub use fault::EngineFault;
+pub use known::known_steps;
+pub use part::{Kept, Part};

@@ -3,6 +3,7 @@
 ghost use Rattle.std.specs.Prelude.{◌≡◌, ◌≤◌, ◌<◌, ◌+◌, ◌-◌, take, drop, true, false, length, IfOk, MatchOption};
 ghost use Rattle.qn_block.specs.Blocked.{tensor_of};
 ghost use Rattle.qn_net.specs.Members.{IsNarrow, member_tensor, role_of, role_value};
+ghost use Rattle.qn_net.specs.Groups.Role.{tensor as tensor_role};
 ghost use Rattle.qn_net.specs.Steps.{meets_condition};
 ghost use Rattle.qn_engine.specs.Parts.{tensor_value, table_value, combiner_of, is_fuse_table, held_value, member_parts, is_odd_tensor, is_odd_number, place_of, IsSameTensor};
 
@@ -109,10 +110,10 @@ pub(crate) fn settled<'a, const K: usize>(held: Held<'a, K>) -> Result<Tensor<'a
 
 /// A tensor in its place, with its number in the plan and a label on each leg.
 #[derive(Drop)]
-pub(crate) struct Part<'a, const K: usize> {
-    pub number: u32,
-    pub held: Held<'a, K>,
-    pub labels: Vec<i64>,
+pub struct Part<'a, const K: usize> {
+    pub(crate) number: u32,
+    pub(crate) held: Held<'a, K>,
+    pub(crate) labels: Vec<i64>,
 }
 
 impl<'a, const K: usize> Model for Part<'a, K> {
@@ -199,6 +200,58 @@ pub(crate) fn is_odd_between<const K: usize>(parts: &[Part<K>], first: usize, se
     ensures { result ≡ is_odd_number (take (second - (first + 1)) (drop (first + 1) parts.now)) }
 {
     is_odd_number(&parts[first + 1..second])
+}
+
+/// A tensor that steps made, kept for later: with its number in the plan and a label on each leg.
+#[derive(Drop)]
+pub struct Kept<const K: usize> {
+    number: u32,
+    tensor: BlockTensor<K>,
+    labels: Vec<i64>,
+}
+
+impl<const K: usize> Model for Kept<K> {
+    ghost use Rattle.qn_net.specs.Members.MemberValue.{own};
+    ghost use Rattle.qn_engine.specs.Parts.{PartValue};
+
+    ghost Value = { PartValue };
+
+    ghost view = { λ k. record { number = k.number; member = own k.tensor; labels = k.labels.items } };
+}
+
+impl<const K: usize> Kept<K> {
+    /// The tensor in its place, lent.
+    pub fn lend<'a>(&'a self, alloc: Global) -> Result<Part<'a, K>, AllocError>
+        ensures { IfOk result (λ p. p ≡ self.now) }
+    {
+        let labels = Vec::from_slice(alloc, &self.labels)?;
+        Ok(Part {
+            number: self.number,
+            held: Held::Plain(Tensor::Lent(&self.tensor)),
+            labels,
+        })
+    }
+}
+
+impl<'a, const K: usize> Part<'a, K> {
+    /// A copy to be kept. It is made of no table.
+    pub fn keep(&self, alloc: Global) -> Result<Kept<K>, AllocError>
+        requires { role_of self.now.member ≡ tensor_role }
+        ensures { IfOk result (λ k. k ≡ self.now) }
+    {
+        match &self.held {
+            Held::Plain(t) => {
+                let labels = Vec::from_slice(alloc, &self.labels)?;
+                let tensor = t.get().copy()?;
+                Ok(Kept {
+                    number: self.number,
+                    tensor,
+                    labels,
+                })
+            }
+            Held::Combined(_) => unreachable!(),
+        }
+    }
 }
 
 /// The member as a part.

@@ -2,3 +2,4 @@ mod Conjugates
 mod Room
 mod Brakets
 mod SameMembers
+pub mod Putting

@@ -1,6 +1,6 @@
 -- Chains of tensors as they are held: matrix-product states and operators.
 -- Source: Fishman, White and Stoudenmire 2022.
-use Rattle.std.specs.Prelude.{◌≡◌, ◌≤◌, ◌^◌, List, length}
+use Rattle.std.specs.Prelude.{◌≡◌, ◌≤◌, ◌^◌, ℕ, List, length, slice_set}
 use Rattle.std.specs.List.{All}
 use Rattle.qn_charge.specs.declared.factor.Factor.{Factor}
 use Rattle.qn_charge.specs.Charges.{IsGroup, IsWithin}
@@ -34,3 +34,7 @@ pub record IsHeld (c : ChainValue) : Type 0 where
   pub few : length c.sites ≤ 64
   pub tensors : All (IsTensorOf c.group) c.tensors
   pub chain : IsChain (legs_of c.kind) c.sites c.tensors
+
+-- the chain with this tensor on site j, counted from 0
+abbrev pub with_tensor : ChainValue → ℕ → BlockedValue → ChainValue
+with_tensor c j t = record { group = c.group; kind = c.kind; sites = c.sites; tensors = slice_set c.tensors j t }

@@ -1,12 +1,13 @@
 //! Chains of tensors on sites in a row.
 
-ghost use Rattle.std.specs.Prelude.{◌≡◌, ◌<◌, ◌≤◌, ◌^◌, length, IfOk, IfErr, OnOk};
+ghost use Rattle.std.specs.Prelude.{◌≡◌, ◌<◌, ◌≤◌, ◌^◌, ◌-◌, length, IfOk, IfErr, OnOk};
 ghost use Rattle.std.specs.List.{All};
 ghost use Rattle.qn_charge.specs.Charges.{IsWithin};
 ghost use Rattle.qn_index.specs.declared.leg.Dir.TheVariants.{Out};
 ghost use Rattle.qn_block.specs.Blocked.{IsBlocked};
 ghost use Rattle.qn_mps.specs.declared.chain.ChainKind.TheVariants.{State as state_kind, Operator as operator_kind};
-ghost use Rattle.qn_mps.specs.Chains.{ChainValue, IsHeld};
+ghost use Rattle.qn_braket.specs.Chains.{tensor_at};
+ghost use Rattle.qn_mps.specs.Chains.{ChainValue, IsHeld, with_tensor};
 ghost use Rattle.qn_mps.specs.Refusals.{IsFaultless, IsChainFault};
 
 use crate::checks::first_fault;
@@ -24,6 +25,13 @@ pub enum ChainKind {
     State,
     /// An operator: each tensor has two legs of its site, s' and s.
     Operator,
+}
+
+/// One of the two states of an expectation.
+#[derive(Clone, Copy, Debug, PartialEq, Eq)]
+pub enum Who {
+    Bra,
+    Ket,
 }
 
 /// A state or an operator on 1 to 64 sites in a row: one tensor for each site. Its legs are left, those of the site,
@@ -185,6 +193,21 @@ impl<const K: usize> Chain<K> {
         ensures { result.now ≡ self.now.tensors }
     {
         &self.tensors
+    }
+
+    /// Puts a tensor in the place of the one on a site, counted from 1. It has the legs and the flux of the one that it
+    /// replaces. All other tensors stay. No memory is taken.
+    pub fn put(&mut self, site: u32, tensor: BlockTensor<K>)
+        requires some { 1 ≤ site }
+        requires few { site ≤ length self.old.tensors }
+        requires group { tensor.group ≡ self.old.group }
+        requires legs { tensor.legs ≡ (tensor_at self.old.tensors (site - 1)).legs }
+        requires flux { tensor.flux ≡ (tensor_at self.old.tensors (site - 1)).flux }
+        ensures { self.new ≡ with_tensor self.old (site - 1) tensor.entry }
+    {
+        tensor.known();
+        let place = site as usize - 1;
+        self.tensors[place] = tensor;
     }
 
     /// An equal chain.

@@ -13,7 +13,7 @@ use qn_block::BlockTensor;
 use qn_index::{Leg, same_sectors};
 
 /// Whether two legs are the same.
-fn same_leg<const K: usize>(a: &Leg<K>, b: &Leg<K>) -> bool
+pub fn same_leg<const K: usize>(a: &Leg<K>, b: &Leg<K>) -> bool
     ensures { IsTrue result ↔ (a.now ≡ b.now) }
 {
     a.dir() == b.dir() && same_sectors(a.sectors(), b.sectors())

@@ -13,6 +13,7 @@ mod standard;
 #[cfg(test)]
 mod tests;
 
-pub use chain::{Chain, ChainKind};
+pub use chain::{Chain, ChainKind, Who};
+pub use checks::same_leg;
 pub use fault::ChainFault;
 pub use network::{expect_net, overlap_net};
