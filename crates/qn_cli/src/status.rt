@@ -1,3 +1,5 @@
+//! How a call of the program ends, and its exit number.
+
 ghost use Rattle.std.specs.Prelude.{◌≡◌};
 ghost use Rattle.qn_cli.specs.Statuses.{exit_number};
 

@@ -1,3 +1,5 @@
+//! The members of a network document: tensors and combiners with their labels.
+
 ghost use Rattle.std.specs.Prelude.{◌≡◌, ◌+◌, ◌<◌, ◌≤◌, ◌^◌, IfOk, ℤ, List, map, length, codes};
 ghost use Rattle.std.specs.List.{All, list_all};
 ghost use Rattle.std.specs.Option.{option_map_or};

@@ -1,3 +1,5 @@
+//! Network documents: their form, their first fault, and the network that they stand for.
+
 ghost use Rattle.std.specs.Prelude.{◌≡◌, ◌+◌, ◌<◌, ◌≤◌, ◌^◌, IfOk, IfSome, ℤ, List, map, length, codes, Option, Some, None};
 ghost use Rattle.serde_json.specs.Find.{get};
 ghost use Rattle.serde_json.specs.View.{view};

@@ -1,3 +1,5 @@
+//! How wide a combiner's table is.
+
 ghost use Rattle.std.specs.Prelude.{◌≤◌, IfErr, OnOk, length};
 ghost use Rattle.qn_charge.specs.Charges.{zero_charge};
 ghost use Rattle.qn_index.specs.Extents.{IsWithinLimits};

@@ -1,3 +1,5 @@
+//! The value of a network, step by step along its plan.
+
 ghost use Rattle.std.specs.Prelude.{◌≡◌, ◌≤◌, ◌<◌, ◌+◌, ◌-◌, ◌^◌, ℕ, length, take, drop, Some, None, negsuc, IfOk, OnOk, IfErr};
 ghost use Rattle.std.specs.List.{sum_by};
 ghost use Rattle.qn_net.specs.NetworkValues.{NetworkValue, passing_place};

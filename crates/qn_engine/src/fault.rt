@@ -1,3 +1,5 @@
+//! Why a network has no value.
+
 use qn_index::Tuple;
 use std::alloc::{AllocError, AllocFailed};
 use thiserror::Error;

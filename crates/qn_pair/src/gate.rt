@@ -1,3 +1,5 @@
+//! What workers pass between tasks.
+
 /// What a worker passes once with each task, before its work. It is shared between threads, and
 /// promises nothing.
 pub trait Gate: Sync {

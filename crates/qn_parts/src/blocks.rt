@@ -1,3 +1,5 @@
+//! The blocks of a tensor document: their entries, and what keeps them from making a tensor.
+
 ghost use Rattle.std.specs.Prelude.{◌≡◌, ◌+◌, ◌<◌, ◌≤◌, ◌^◌, IfOk, IfSome, OnOk, map, length, is_none, if◌then◌else◌, Some, None, unwrap_or, option_map};
 ghost use Rattle.std.specs.List.{position_from};
 ghost use Rattle.std.specs.Option.{option_or};

@@ -1,3 +1,5 @@
+//! Tensor documents, and the keys that every document has: `version` and `group`.
+
 ghost use Rattle.std.specs.Prelude.{◌≡◌, ◌≤◌, length, codes};
 ghost use Rattle.serde_json.specs.Find.{get};
 ghost use Rattle.qn_charge.specs.Charges.{IsGroup};

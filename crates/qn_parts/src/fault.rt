@@ -1,3 +1,5 @@
+//! Faults of documents, with their codes and places.
+
 ghost use Rattle.std.specs.Prelude.{◌≡◌, ◌+◌, ◌<◌, ◌^◌};
 ghost use Rattle.qn_parts.specs.Faults.{fault};
 

@@ -1,3 +1,5 @@
+//! The group of a document: its form, and its first fault.
+
 ghost use Rattle.std.specs.Prelude.{◌≡◌, ◌+◌, ◌<◌, ◌≤◌, ◌^◌, IfOk, IfSome, map, length, false, None, ⊤};
 ghost use Rattle.std.specs.List.{list_all, position_from};
 ghost use Rattle.qn_charge.specs.Charges.{IsGroup};

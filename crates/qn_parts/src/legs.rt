@@ -1,3 +1,5 @@
+//! The legs and the flux of a tensor in a document.
+
 ghost use Rattle.std.specs.Prelude.{◌≡◌, ◌+◌, map, pos};
 ghost use Rattle.std.specs.List.{All};
 ghost use Rattle.serde_json.specs.View.{view};

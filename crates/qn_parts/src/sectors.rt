@@ -1,3 +1,5 @@
+//! Charges and sectors in a document: their form, their range, their order.
+
 ghost use Rattle.std.specs.Prelude.{◌≡◌, ◌+◌, ◌<◌, ◌==◌, ◌||◌, nat_lt, ◌≤◌, ◌^◌, IfOk, IfSome, MatchOption, unsigned_abs, map, length, true, false, None, ⊤};
 ghost use Rattle.std.specs.List.{list_all, list_any};
 ghost use Rattle.serde_json.specs.View.{view};

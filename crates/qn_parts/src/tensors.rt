@@ -1,3 +1,5 @@
+//! A tensor in a document: its form, and its first fault.
+
 ghost use Rattle.std.specs.Prelude.{◌≡◌, ◌+◌, ◌<◌, ◌≤◌, ◌^◌, IfOk, IfSome, map, length, codes, None, ⊤};
 ghost use Rattle.std.specs.List.{All, list_all, position_from};
 ghost use Rattle.std.specs.Option.{option_or};

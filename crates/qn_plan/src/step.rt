@@ -1,3 +1,5 @@
+//! The steps of a plan.
+
 use std::alloc::{AllocError, AllocFailed};
 use std::marker::Model;
 use thiserror::Error;

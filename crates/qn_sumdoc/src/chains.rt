@@ -1,3 +1,5 @@
+//! The tensors of a state in a document, site by site.
+
 ghost use Rattle.std.specs.Prelude.{◌≡◌, ◌+◌, ◌<◌, ◌≤◌, ◌^◌, IfOk, List, map, length, None, Some};
 ghost use Rattle.std.specs.List.{All, list_all};
 ghost use Rattle.serde_json.specs.Find.{get};

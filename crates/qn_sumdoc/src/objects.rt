@@ -1,3 +1,5 @@
+//! Members and texts of JSON objects.
+
 ghost use Rattle.std.specs.Prelude.{◌≡◌, option_map, map, IfOk, string_bytes};
 ghost use Rattle.serde_json.specs.Find.{get};
 ghost use Rattle.serde_json.specs.View.{view};

@@ -1,3 +1,5 @@
+//! A site of one's own in a document: its sectors and its operators.
+
 ghost use Rattle.std.specs.Prelude.{◌≡◌, ◌+◌, ◌<◌, ◌≤◌, ◌^◌, map, length, codes, option_map, unwrap_or, [], None};
 ghost use Rattle.std.specs.List.{list_all};
 ghost use Rattle.serde_json.specs.Find.{get};

@@ -1,3 +1,5 @@
+//! Documents of two states on the same sites, with or without an operator sum.
+
 ghost use Rattle.std.specs.Prelude.{◌≡◌, ◌≤◌, ◌<◌, ◌^◌, IfOk, length, None, if◌then◌else◌, ⊤};
 ghost use Rattle.serde_json.specs.View.{view};
 ghost use Rattle.qn_charge.specs.Charges.{IsGroup};

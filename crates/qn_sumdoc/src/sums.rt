@@ -1,3 +1,5 @@
+//! Documents of an operator sum.
+
 ghost use Rattle.std.specs.Prelude.{◌≡◌, ◌≤◌, ◌<◌, ◌^◌, length, None};
 ghost use Rattle.serde_json.specs.View.{view};
 ghost use Rattle.qn_charge.specs.Charges.{IsGroup};

@@ -1,3 +1,5 @@
+//! The terms of an operator sum in a document: coefficients, and operators on sites.
+
 ghost use Rattle.std.specs.Prelude.{◌≡◌, ◌+◌, ◌<◌, ◌≤◌, ◌^◌, IfOk, IfSome, map, length, codes, ⊤, Some, None};
 ghost use Rattle.std.specs.List.{list_all, position_from};
 ghost use Rattle.serde_json.specs.Find.{get};

@@ -1,3 +1,5 @@
+//! The text of a plan.
+
 ghost use Rattle.std.specs.Prelude.{◌≡◌, ◌≤◌, ◌<◌, ◌^◌, ◌*◌, ◌+◌, IfOk, OnOk, [], ◌∷◌, map, length, codes};
 ghost use Rattle.std.specs.List.{All, sum_by};
 ghost use Rattle.serde_json.specs.Data.{string};

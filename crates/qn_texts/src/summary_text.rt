@@ -1,3 +1,5 @@
+//! The text of a value with its costs.
+
 ghost use Rattle.std.specs.Prelude.{◌≡◌, IfOk, OnOk};
 ghost use Rattle.qn_json.specs.Appended.{Appends};
 ghost use Rattle.qn_texts.specs.SummaryTexts.{SummaryValue, summary_data, summary_text};
