@@ -8,7 +8,7 @@ use Rattle.qn_sign.proofs.Positions.{orders_are_permutations}
 use Rattle.qn_gauss.specs.Gaussian.{signed}
 use Rattle.qn_charge.specs.declared.factor.Factor.{Factor}
 use Rattle.qn_charge.specs.Charges.{IsCanonical, IsWithin, zero_charge, sum_charge, parity}
-use Rattle.qn_charge.specs.Laws.{zero_is_neutral, commutative_charge, within_more}
+use Rattle.qn_charge.specs.Laws.{zero_is_neutral, commutative_charge}
 use Rattle.qn_index.specs.Legs.{LegValue, IsSound, IsLegOf}
 use Rattle.qn_index.specs.Tuples.{net}
 use Rattle.qn_index.specs.Places.{IsValues, sectors_at}

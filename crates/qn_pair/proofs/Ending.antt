@@ -1,16 +1,16 @@
 -- What the board's end and the workers' results say together.
-use Rattle.std.proofs.Common.{◌≡◌, ℕ, suc, ◌^◌, ◌<◌, ◌≤◌, List, [], ◌∷◌, length, min, refl, sym, ⊎_elim, arith, subst, None, Some}
+use Rattle.std.proofs.Common.{◌≡◌, ℕ, ◌^◌, ◌<◌, ◌≤◌, List, [], ◌∷◌, length, min, refl, sym, ⊎_elim, arith, subst, None, Some}
 use Rattle.std.specs.Prelude.{◌↔◌, Option, IsNone, IfSome, MatchOption}
 use Rattle.std.specs.List.{All}
 use Rattle.qn_value.specs.Tensors.{BlockValue}
-use Rattle.qn_board.specs.Lists.{occurrences, IsIn, IsLeast, IsEachBelow, once_below, greatest}
+use Rattle.qn_board.specs.Lists.{occurrences, IsIn, IsLeast, IsEachBelow, greatest}
 use Rattle.qn_board.specs.Seats.{SeatValue}
 use Rattle.qn_board.specs.Machine.{first_seat}
 use Rattle.qn_board.proofs.Counting.{in_either, in_one, below_of, below_less}
 use Rattle.qn_board.proofs.Settles.{in_or_not}
-use Rattle.qn_pair.specs.Jobs.{JobValue, tuples_of, task_block, Passes, cost_of_job, ArePriced}
+use Rattle.qn_pair.specs.Jobs.{JobValue, tuples_of, Passes, cost_of_job, ArePriced}
 use Rattle.qn_pair.specs.Work.{numbers, IsResult}
-use Rattle.qn_pair.specs.Workers.{IsFresh, IsShared, IsAll, IsComplete, IsClear, IsFirst, IsOutcome}
+use Rattle.qn_pair.specs.Workers.{IsFresh, IsShared, IsAll, IsClear, IsFirst, IsOutcome}
 use Rattle.qn_pair.proofs.Loops.{below_once}
 use Rattle.qn_value.proofs.PlacedLemmas.{all_others}
 

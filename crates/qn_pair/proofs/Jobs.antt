@@ -1,10 +1,9 @@
 -- What the tasks of a contraction take of its cost.
-use Rattle.std.proofs.Common.{◌≡◌, ◌≤◌, ◌<◌, ℕ, zero, suc, ◌+◌, List, [], ◌∷◌, ◌^◌, sym, ◌∙◌, ap, subst, map, length, get_or, arith}
+use Rattle.std.proofs.Common.{◌≡◌, ◌≤◌, ℕ, zero, suc, ◌+◌, List, [], ◌∷◌, ◌^◌, sym, ◌∙◌, ap, subst, map, length, get_or, arith}
 use Rattle.std.specs.List.{sum_by}
 use Rattle.std.proofs.lemmas.List.Sums.{sum_by-cons}
 use Rattle.qn_index.specs.Tuples.{admitted}
 use Rattle.qn_block.specs.Blocked.{IsBlocked}
-use Rattle.qn_board.specs.Lists.{occurrences, once_below}
 use Rattle.qn_match.specs.Pairs.{TaskValue, task_for, tasks, IsPair}
 use Rattle.qn_match.specs.Cost.{IsShape}
 use Rattle.qn_match.specs.Shares.{share_of, TaskWithinShare, SharesWithinCost}

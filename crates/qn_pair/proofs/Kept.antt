@@ -1,5 +1,5 @@
 -- The blocks that the result keeps, and the places that pass.
-use Rattle.std.proofs.Common.{◌≡◌, ◌<◌, ◌≤◌, ℕ, zero, suc, ◌+◌, ◌⊎◌, inl, inr, Bool, true, false, not, ◌&&◌, cond, None, Some, List, [], ◌∷◌, refl, sym, ◌∙◌, ap, subst, map, filter, length, get_or, zero-add, arith}
+use Rattle.std.proofs.Common.{◌≡◌, ◌<◌, ◌≤◌, ℕ, zero, suc, ◌⊎◌, inl, inr, Bool, true, false, not, ◌&&◌, cond, None, Some, List, [], ◌∷◌, refl, sym, ◌∙◌, ap, subst, map, filter, length, get_or, zero-add, arith}
 use Rattle.std.specs.Prelude.{Option}
 use Rattle.std.specs.List.{All}
 use Rattle.std.specs.Cmp.Lexicographic.{slice_cmp}
@@ -13,15 +13,14 @@ use Rattle.qn_sign.specs.Positions.{positions}
 use Rattle.qn_gauss.specs.Gaussian.{Gaussian, zero_g}
 use Rattle.qn_charge.specs.Charges.{parity}
 use Rattle.qn_index.specs.Legs.{LegValue}
-use Rattle.qn_index.specs.Tuples.{IsTuple, net}
 use Rattle.qn_index.specs.Places.{block_size, values_at, sectors_at, offset_at}
 use Rattle.qn_index.proofs.Places.{forth}
 use Rattle.qn_index.proofs.Admitted.{listed}
 use Rattle.qn_value.specs.Tensors.{BlockValue, IsBlock, AreAscending, same_values, entry_in, no_block}
 use Rattle.qn_value.specs.Local.{pair_entry}
-use Rattle.qn_value.specs.Magnitudes.{Place, first_passing, passing_offset, pair_magnitude}
+use Rattle.qn_value.specs.Magnitudes.{first_passing, passing_offset, pair_magnitude}
 use Rattle.qn_value.proofs.Values.{same_values-equal}
-use Rattle.qn_block.specs.Blocked.{IsBlocked, MeetFlux, tensor_of}
+use Rattle.qn_block.specs.Blocked.{MeetFlux, tensor_of}
 use Rattle.qn_block.specs.Refusals.{block_at}
 use Rattle.qn_block.specs.Steps.{IsStepFault}
 use Rattle.qn_block.specs.declared.step.StepFault.{StepFault}
@@ -29,8 +28,8 @@ use Rattle.qn_block.specs.declared.step.StepFault.TheVariants.{Passed, Memory}
 use Rattle.qn_block.proofs.Written.{IsFilled, IsListed, admitted_pairs, filled_ascend, filled_answer}
 use Rattle.qn_block.proofs.Ascending.{filter_ascends}
 use Rattle.qn_block.proofs.Lookup.{not_below_itself, entry_nowhere}
-use Rattle.qn_match.specs.Pairs.{pairs_for, IsPair}
-use Rattle.qn_kernel.specs.Sources.{SourceValue, sources, entry_sum}
+use Rattle.qn_match.specs.Pairs.{pairs_for}
+use Rattle.qn_kernel.specs.Sources.{sources, entry_sum}
 use Rattle.qn_pair.specs.Steps.{result_flux, passing_in, IsEntry, IsTaskFault}
 use Rattle.qn_pair.specs.Jobs.{JobValue, IsKnown, legs_of, tuples_of, tuple_at, task_block, sources_at, Passes, passing_of_job}
 use Rattle.qn_pair.specs.Workers.{IsFirst, is_empty, has_pairs, kept_blocks}

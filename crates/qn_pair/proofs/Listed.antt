@@ -1,14 +1,12 @@
 -- The list of a contraction's tasks, by their numbers.
-use Rattle.std.proofs.Common.{◌≡◌, ◌<◌, ◌≤◌, ◌^◌, ℕ, Bool, suc, ◌+◌, List, [], ◌∷◌, refl, sym, ◌∙◌, ap, subst, map, length, get_or, arith}
+use Rattle.std.proofs.Common.{◌≡◌, ◌<◌, ◌≤◌, ◌^◌, ℕ, Bool, List, [], refl, sym, ◌∙◌, ap, subst, map, length, get_or, arith}
 use Rattle.std.proofs.lemmas.List.{length-map, get_or_default, get_or-map}
 use Rattle.std.proofs.lemmas.List.Sums.{count_by-le-length, length-filter}
-use Rattle.qn_index.specs.Legs.{LegValue}
-use Rattle.qn_index.specs.Tuples.{IsTuple, admits, tuples, admitted}
-use Rattle.qn_index.specs.Places.{block_size}
+use Rattle.qn_index.specs.Tuples.{admits, tuples, admitted}
 use Rattle.qn_index.specs.Extents.{IsWithinLimits}
 use Rattle.qn_index.proofs.Shapes.{length_tuples}
 use Rattle.qn_block.proofs.Written.{IsListed, listed_at}
-use Rattle.qn_match.specs.Pairs.{joined, TaskValue, task_for, tasks, IsPair}
+use Rattle.qn_match.specs.Pairs.{joined, TaskValue, task_for, IsPair}
 use Rattle.qn_pair.specs.Steps.{result_flux}
 use Rattle.qn_pair.specs.Jobs.{JobValue, IsJob, legs_of, tuples_of, tuple_at}
 use Rattle.qn_pair.proofs.Words.{legs_left, result_is}

@@ -1,10 +1,9 @@
 -- Blocks put in the order of their tasks' numbers.
-use Rattle.std.proofs.Common.{◌≡◌, ℕ, zero, suc, ◌+◌, ◌<◌, ◌≢◌, List, [], ◌∷◌, ◌++◌, length, map, filter, set, replicate, get_or, refl, sym, ap, ◌∙◌, ⊎_elim, add-zero, zero-add, arith, subst, get_or-set_other, get_or-set_same, Bool, true, false, not, cond, eq-eqb, None, Some}
+use Rattle.std.proofs.Common.{◌≡◌, ℕ, zero, suc, ◌+◌, ◌<◌, ◌≢◌, List, [], ◌∷◌, ◌++◌, length, map, filter, set, get_or, refl, sym, ap, ◌∙◌, ⊎_elim, add-zero, zero-add, arith, subst, get_or-set_other, get_or-set_same, Bool, true, false, not, cond, eq-eqb, None, Some}
 use Rattle.std.specs.Prelude.{◌==◌, Option, option_to_list}
 use Rattle.std.specs.List.{All, flat_map, range_with_len}
 use lib.ListN.{length-set}
 use Rattle.std.proofs.lemmas.Bool.{eqb-true, false≢true}
-use Rattle.std.proofs.lemmas.List.{length-replicate}
 use Rattle.qn_sign.specs.Positions.{positions}
 use Rattle.qn_value.specs.Tensors.{BlockValue}
 use Rattle.qn_board.specs.Lists.{IsIn}
@@ -13,7 +12,6 @@ use Rattle.qn_match.specs.Pairs.{pairs_for}
 use Rattle.qn_pair.specs.Jobs.{JobValue, tuples_of, tuple_at, task_block}
 use Rattle.qn_pair.specs.Work.{numbers}
 use Rattle.qn_pair.specs.Workers.{IsComplete, is_empty, has_pairs, kept_blocks, slot_of}
-use Rattle.qn_pair.proofs.Loops.{numbers-append}
 
 -- these results are in their slots
 pub record IsPlaced (j : JobValue) (ds : List (ℕ × BlockValue)) (row : List (Option BlockValue)) : Type 0 where

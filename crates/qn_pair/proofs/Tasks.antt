@@ -20,7 +20,7 @@ use Rattle.qn_block.specs.Refusals.{block_at}
 use Rattle.qn_block.specs.declared.step.StepFault.{StepFault}
 use Rattle.qn_block.specs.declared.step.StepFault.TheVariants.{Passed, Memory}
 use Rattle.qn_match.specs.Pairs.{give, all_pairs, pairs_for, TaskValue, task_for, IsPair}
-use Rattle.qn_match.specs.Shares.{shared_size, products_of}
+use Rattle.qn_match.specs.Shares.{shared_size}
 use Rattle.qn_strides.proofs.Opens.{left_legs}
 use Rattle.qn_strides.proofs.Passing.{clear_block, passing_block}
 use Rattle.qn_kernel.specs.Sources.{couples_of, SourceValue, paired_axes, all_values, source_of, sources, entry_sum, size_sum, products, IsFrame, IsReadable, IsPassing, IsFirstAbove}

@@ -1,5 +1,5 @@
 -- The word of two tensors' legs: its coupled places are the shared legs, and its open places are the legs that are left.
-use Rattle.std.proofs.Common.{◌≡◌, ◌<◌, ℕ, zero, suc, ◌+◌, ◌==◌, Bool, true, false, not, ◌||◌, ◌&&◌, cond, None, List, [], ◌∷◌, ◌++◌, refl, sym, ◌∙◌, ap, ap₂, subst, map, filter, length, get_or, zero-add, append-nil, eqb-true, eq-eqb, arith}
+use Rattle.std.proofs.Common.{◌≡◌, ◌<◌, ℕ, zero, suc, ◌+◌, ◌==◌, Bool, true, false, not, ◌||◌, ◌&&◌, cond, None, List, [], ◌∷◌, ◌++◌, refl, sym, ◌∙◌, ap, ap₂, subst, map, filter, length, get_or, zero-add, append-nil, eqb-true, arith}
 use Rattle.std.specs.List.{All, range_with_len}
 use Rattle.std.proofs.lemmas.List.{map-append, length-append, get_or-append-add}
 use Rattle.std.proofs.lemmas.List.Elements.{filter-append, All-map}
@@ -9,7 +9,6 @@ use Rattle.qn_sign.specs.Positions.{positions}
 use Rattle.qn_index.specs.Legs.{LegValue, Meets}
 use Rattle.qn_value.specs.Local.{no_leg, places_of, is_coupled, picked, IsCouple, IsCoupling, open_legs, shared_couples}
 use Rattle.qn_value.specs.Tensors.{same_values}
-use Rattle.qn_value.proofs.Values.{same_values-equal, both_ways}
 use Rattle.qn_block.specs.Blocked.{BlockedValue, tensor_of}
 use Rattle.qn_match.specs.Pairs.{is_first, is_second, marks, unmarked, joined, agree, give, IsShared}
 use Rattle.qn_strides.specs.Strides.{open_places, couples_meet}

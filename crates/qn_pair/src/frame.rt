@@ -18,7 +18,7 @@ use crate::job::Job;
 use qn_block::{Block, BlockTensor, StepFault};
 use qn_charge::{Abelian, Charge, Group};
 use qn_gauss::Steps;
-use qn_index::{Leg, block_len, known_all};
+use qn_index::{Leg, block_len, copy_legs, known_all};
 use qn_kernel::{Source, block_from, first_above, sources_of};
 use qn_match::Task;
 use qn_strides::{goal_places, legs_at, open_places};
@@ -56,16 +56,6 @@ impl<'a, const K: usize> Model for Frame<'a, K> {
     ghost invariant = { λ f. AreLists f.job.now.first f.job.now.second f.job.now.shared f.lists.word.items f.lists.goal.items f.lists.places.items f.lists.left.items };
 }
 
-/// Appends equal legs.
-fn append_copies<const K: usize>(legs: &[Leg<K>], out: &mut Vec<Leg<K>>) -> Result<(), AllocError>
-    ensures { OnOk result (out.new.items ≡ out.old.items ++ legs.now) }
-{
-    for leg in legs {
-        out.push(leg.copy()?)?;
-    }
-    Ok(())
-}
-
 /// The legs of both tensors, first those of the first.
 fn word_of<const K: usize>(
     alloc: Global,
@@ -74,9 +64,10 @@ fn word_of<const K: usize>(
 ) -> Result<Vec<Leg<K>>, AllocError>
     ensures { IfOk result (λ v. v.items ≡ firsts.now ++ seconds.now) }
 {
-    let mut word = Vec::with_capacity(alloc, firsts.len())?;
-    append_copies(firsts, &mut word)?;
-    append_copies(seconds, &mut word)?;
+    let mut word = copy_legs(alloc, firsts)?;
+    for leg in seconds {
+        word.push(leg.copy()?)?;
+    }
     Ok(word)
 }
 

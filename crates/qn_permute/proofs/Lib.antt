@@ -3,3 +3,4 @@ mod Lines
 mod Widths
 mod Sorted
 mod Moves
+mod Shared

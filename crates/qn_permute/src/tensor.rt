@@ -13,9 +13,13 @@ use crate::block::moved_block;
 use qn_block::{Block, BlockTensor};
 use qn_charge::{Charge, Group};
 use qn_index::Leg;
+use rayon::prelude::*;
 use std::alloc::{AllocError, Global};
 use std::cmp::Ordering;
 use std::thread::Threads;
+
+/// How many entries pay for a thread.
+const PIECE: usize = 1 << 16;
 
 /// Whether the positions stand in their own order.
 fn is_in_order(order: &[usize]) -> bool
@@ -45,8 +49,19 @@ fn legs_in_order<const K: usize>(
     Ok(out)
 }
 
-/// The blocks with their legs in another order.
-fn moved_blocks<const K: usize>(
+/// How many blocks pay for a thread: as many as have `PIECE` entries together, if all are as long as the mean.
+fn piece_len(blocks: &[Block]) -> usize {
+    let mut entries: usize = 0;
+    for block in blocks {
+        entries = entries.saturating_add(block.entries().len());
+    }
+    let mean = entries / blocks.len().max(1);
+    PIECE / mean.max(1) + 1
+}
+
+/// The blocks with their legs in another order. Threads share them in pieces that pay for one.
+fn moved_blocks<const K: usize, R: Threads + Sync>(
+    rt: &R,
     alloc: Global,
     group: &Group<K>,
     legs: &[Leg<K>],
@@ -58,11 +73,16 @@ fn moved_blocks<const K: usize>(
     requires order { IsOrder (length legs.now) order.now }
     ensures { IfOk result (λ v. v.items ≡ map (moved_block group.now legs.now order.now) blocks.now) }
 {
-    let mut out = Vec::with_capacity(alloc, blocks.len())?;
-    for block in blocks {
-        out.push(moved_block(alloc, group, legs, flux, block, order)?)?;
-    }
-    Ok(out)
+    blocks
+        .par_iter()
+        .with_min_len(piece_len(blocks))
+        .map(
+            |block: &Block| -> Result<Block, AllocError>
+                requires { IsBlock group.now legs.now flux.now block.now × IsOrder (length legs.now) order.now }
+                ensures { IfOk result (λ b. b ≡ moved_block group.entry.now legs.entry.now order.entry.now block.now) }
+            { moved_block(alloc, group, legs, flux, block, order) },
+        )
+        .collect::<Result<Vec<Block>, AllocError>>(rt, alloc)?
 }
 
 /// How two blocks' tuples stand to each other, compared leg by leg from the first.
@@ -83,9 +103,9 @@ fn sort_blocks(blocks: &mut Vec<Block>) -> Result<(), AllocError>
 
 /// The tensor with its legs in another order: leg `k` of the result is leg `order[k]` of `t`.
 /// Each entry has the sign of exchanging its odd values. Takes memory for the result and for one list of legs a block.
-/// Nothing is started on `rt` yet.
+/// Threads share the blocks where these are large enough to pay for them.
 pub fn permute<const K: usize, R: Threads + Sync>(
-    _rt: &R,
+    rt: &R,
     alloc: Global,
     t: &BlockTensor<K>,
     order: &[usize],
@@ -98,7 +118,7 @@ pub fn permute<const K: usize, R: Threads + Sync>(
         return t.copy();
     }
     let legs = legs_in_order(alloc, t.legs(), order)?;
-    let mut blocks = moved_blocks(alloc, t.group(), t.legs(), t.flux(), t.blocks(), order)?;
+    let mut blocks = moved_blocks(rt, alloc, t.group(), t.legs(), t.flux(), t.blocks(), order)?;
     sort_blocks(&mut blocks)?;
     Ok(BlockTensor::of_blocks(*t.group(), legs, *t.flux(), blocks))
 }

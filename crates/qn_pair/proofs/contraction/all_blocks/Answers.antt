@@ -1,5 +1,5 @@
 use Rattle.std.proofs.Common.{lit<}
-use Rattle.qn_pair.specs.Workers.{IsClear, IsFirst}
+use Rattle.qn_pair.specs.Workers.{IsFirst}
 use Rattle.qn_pair.proofs.Ending.{outcome_first, outcome_clear}
 use Rattle.qn_pair.proofs.Kept.{none_passes, fault_first}
 use Rattle.qn_pair.proofs.contraction.all_blocks.Goals as goal

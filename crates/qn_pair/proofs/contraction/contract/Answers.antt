@@ -1,13 +1,11 @@
-use Rattle.std.proofs.Common.{rules, ◌≡◌, ◌≤◌, ◌+◌, refl, sym, ◌∙◌, ap, subst, lit<, ℕ, List, None}
+use Rattle.std.proofs.Common.{rules, ◌≡◌, refl, sym, ◌∙◌, ap, subst, lit<, ℕ, List}
 use Rattle.std.specs.List.{All}
 use Rattle.qn_charge.specs.Charges.{sum_charge}
-use Rattle.qn_index.specs.Legs.{LegValue}
 use Rattle.qn_value.specs.Tensors.{BlockValue, IsBlock, AreAscending, entry_in}
 use Rattle.qn_block.specs.Blocked.{MeetFlux}
 use Rattle.qn_block.specs.Steps.{IsStepFault}
 use Rattle.qn_pair.specs.Steps.{result_legs, result_flux, passing_place, IsEntry}
 use Rattle.qn_pair.specs.Jobs.{JobValue, IsKnown, job, legs_of, passing_of_job}
-use Rattle.qn_pair.specs.Workers.{kept_blocks}
 use Rattle.qn_pair.proofs.Called.{are_added, blocked_result, called}
 use Rattle.qn_pair.proofs.Kept.{kept_ascend, kept_are_blocks, kept_answer}
 use Rattle.qn_pair.proofs.contraction.contract.Goals as goal

@@ -3,7 +3,7 @@ use Rattle.std.specs.List.{All}
 use Rattle.qn_index.specs.Legs.{LegValue}
 use Rattle.qn_value.specs.Local.{no_leg, picked, IsCouple}
 use Rattle.qn_strides.specs.Strides.{goal_places, open_places}
-use Rattle.qn_kernel.specs.Sources.{couples_of, IsFrame}
+use Rattle.qn_kernel.specs.Sources.{couples_of}
 use Rattle.qn_pair.proofs.Called.{framed}
 use Rattle.qn_pair.proofs.frame.lists_of.Goals as goal
 

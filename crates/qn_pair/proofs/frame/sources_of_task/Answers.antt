@@ -1,4 +1,4 @@
-use Rattle.std.proofs.Common.{◌≡◌, ◌≤◌, ◌∙◌, ◌&&◌, ap, sym, subst, lit<, ℕ, List}
+use Rattle.std.proofs.Common.{◌≤◌, ◌∙◌, ◌&&◌, ap, sym, subst, lit<, List}
 use Rattle.qn_charge.specs.Charges.{parity}
 use Rattle.qn_index.specs.Legs.{LegValue}
 use Rattle.qn_index.specs.Tuples.{IsTuple}

@@ -1,4 +1,4 @@
-use Rattle.std.proofs.Common.{rules, ◌≡◌, ◌<◌, ◌++◌, ℕ, None, Some, List, [], ◌∷◌, cond, length, append_assoc, append-nil, sym, ◌∙◌, ap, subst}
+use Rattle.std.proofs.Common.{rules, ◌≡◌, ◌<◌, ◌++◌, ℕ, None, Some, List, [], ◌∷◌, cond, length, append_assoc, sym, ◌∙◌, ap, subst}
 use Rattle.std.specs.List.{All}
 use Rattle.qn_value.specs.Tensors.{BlockValue}
 use Rattle.qn_match.specs.Pairs.{TaskValue, pairs_for}

@@ -1,4 +1,4 @@
-use Rattle.std.proofs.Common.{◌≤◌, ◌-◌, ◌/◌, ◌+◌, ℕ, arith, subst, sym}
+use Rattle.std.proofs.Common.{◌≤◌, ◌-◌, ◌/◌, ◌+◌, ℕ, arith, subst}
 use Rattle.std.specs.Prelude.{Vec}
 use Rattle.std.specs.declared.alloc.Global.{Global}
 use Rattle.qn_value.specs.Tensors.{BlockValue}

@@ -1,4 +1,4 @@
-use Rattle.std.proofs.Common.{◌≡◌, ℕ, [], ◌∷◌, sym, append-nil, ap, ◌∙◌, subst}
+use Rattle.std.proofs.Common.{[], ◌∷◌, sym, append-nil, subst}
 use Rattle.qn_block.specs.declared.step.StepFault.{StepFault}
 use Rattle.qn_block.specs.declared.step.StepFault.TheVariants.{Passed}
 use Rattle.qn_pair.specs.Jobs.{tuple_at, Passes}

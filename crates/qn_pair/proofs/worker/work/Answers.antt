@@ -1,4 +1,4 @@
-use Rattle.std.proofs.Common.{◌≡◌, ℕ, [], List, length, arith, sym, ap, ◌∙◌}
+use Rattle.std.proofs.Common.{[], length, arith, sym, ap, ◌∙◌}
 use Rattle.qn_pair.specs.Jobs.{JobValue, tuples_of, job}
 use Rattle.qn_pair.proofs.Listed.{list_long}
 use Rattle.qn_pair.proofs.Loops.{idle}

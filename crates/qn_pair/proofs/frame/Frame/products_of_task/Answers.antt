@@ -1,6 +1,5 @@
-use Rattle.std.proofs.Common.{◌≡◌, ◌≤◌, ◌<◌, ◌∙◌, ℕ, sym, ap, subst, lit<, arith, length, List}
+use Rattle.std.proofs.Common.{◌≡◌, ◌<◌, ◌∙◌, ℕ, sym, ap, subst, lit<, arith, length}
 use Rattle.std.specs.List.{All}
-use Rattle.qn_index.specs.Legs.{LegValue}
 use Rattle.qn_index.specs.Tuples.{IsTuple}
 use Rattle.qn_value.specs.Tensors.{BlockValue}
 use Rattle.qn_match.specs.Pairs.{TaskValue, pairs_for}

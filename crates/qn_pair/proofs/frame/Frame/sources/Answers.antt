@@ -1,4 +1,4 @@
-use Rattle.std.proofs.Common.{◌≡◌, ◌≤◌, ◌<◌, ◌∙◌, ◌&&◌, sym, ap, subst, lit<, arith, List, length}
+use Rattle.std.proofs.Common.{◌≡◌, ◌<◌, ◌∙◌, ◌&&◌, sym, ap, subst, lit<, arith, length}
 use Rattle.qn_charge.specs.Charges.{parity}
 use Rattle.qn_index.specs.Tuples.{IsTuple}
 use Rattle.qn_index.specs.Places.{block_size}

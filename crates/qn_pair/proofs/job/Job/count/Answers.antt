@@ -1,4 +1,4 @@
-use Rattle.std.proofs.Common.{◌≡◌, ◌≤◌, ◌^◌, List, length, ap, ◌∙◌, subst, arith}
+use Rattle.std.proofs.Common.{length, ap, ◌∙◌, arith}
 use Rattle.qn_pair.specs.Jobs.{JobValue, tuples_of}
 use Rattle.qn_pair.proofs.Listed.{list_long, few_tuples}
 use Rattle.qn_pair.proofs.job.Job.count.Goals as goal

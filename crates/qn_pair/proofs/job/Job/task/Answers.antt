@@ -1,5 +1,5 @@
-use Rattle.std.proofs.Common.{◌≡◌, ◌<◌, ℕ, List, length, ap, ◌∙◌, sym, subst, arith}
-use Rattle.qn_match.specs.Pairs.{TaskValue, task_for}
+use Rattle.std.proofs.Common.{◌<◌, length, ap, ◌∙◌, sym, subst, arith}
+use Rattle.qn_match.specs.Pairs.{task_for}
 use Rattle.qn_pair.specs.Jobs.{JobValue, tuples_of, tuple_at}
 use Rattle.qn_pair.proofs.Listed.{list_long, task_at}
 use Rattle.qn_pair.proofs.job.Job.task.Goals as goal
