@@ -52,10 +52,10 @@ expect_made bra op ket none first second third z h e f = (
 
 -- chains that are held are chains
 
-as_state : (c : ChainValue) (sites : List LegValue) → IsHeld c → c.kind ≡ State → c.sites ≡ sites → IsStateChain sites c.tensors
+pub as_state : (c : ChainValue) (sites : List LegValue) → IsHeld c → c.kind ≡ State → c.sites ≡ sites → IsStateChain sites c.tensors
 as_state c sites h k s = subst (λ (ls : List LegValue). IsStateChain ls c.tensors) s (subst (λ (kind : ChainKind). IsChain (legs_of kind) c.sites c.tensors) k h.chain)
 
-as_operator : (c : ChainValue) (sites : List LegValue) → IsHeld c → c.kind ≡ Operator → c.sites ≡ sites → IsOperatorChain sites c.tensors
+pub as_operator : (c : ChainValue) (sites : List LegValue) → IsHeld c → c.kind ≡ Operator → c.sites ≡ sites → IsOperatorChain sites c.tensors
 as_operator c sites h k s = subst (λ (ls : List LegValue). IsOperatorChain ls c.tensors) s (subst (λ (kind : ChainKind). IsChain (legs_of kind) c.sites c.tensors) k h.chain)
 
 same_group : (c : ChainValue) (fs : List Factor) → c.group ≡ fs → IsHeld c → All (λ (t : BlockedValue). t.group ≡ fs) c.tensors

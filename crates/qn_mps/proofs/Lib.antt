@@ -1,5 +1,5 @@
 mod Conjugates
 mod Room
-mod Brakets
+pub mod Brakets
 mod SameMembers
 pub mod Putting
