@@ -108,9 +108,6 @@ module _ (c : CombinerValue) (A B : List LegValue) (a b : List ℕ) (la : length
   abbrev vb : List (List ℕ)
   vb = values_in B b
 
-  prefix : ℕ → List ℕ
-  prefix i = values_at A a i
-
   -- the values of the legs behind
   abbrev with_rest : List (List ℕ) → List (List ℕ)
   with_rest uss = flat_map (λ us. map (λ ys. us ++ ys) vb) uss

@@ -185,10 +185,6 @@ parts_within key h (t ∷ ts) cs a =
         by true = refl
         by false = omega arith
 
-sum_grows : {A : Type 0} (f g : A → ℕ) (xs : List A) → ((x : A) → f x ≤ g x) → sum_over f xs ≤ sum_over g xs
-sum_grows f g [] h = omega arith
-sum_grows f g (x ∷ xs) h = omega (arith, h x, sum_grows f g xs h)
-
 -- where each tuple has the charge, the sizes times one number are a sum over the tuples
 same_part : (key : List ℕ → List ℤ) (c : List ℤ) (ls : List LegValue) (g : List ℤ → ℕ) (h : List ℕ → ℕ) → ((t : List ℕ) → key t ≡ c → h t ≡ block_size ls t * g c) → (ts : List (List ℕ)) →
     size_of ls (filter (λ t. pointwise int_eq (key t) c) ts) * g c ≡ sum_over h (filter (λ t. pointwise int_eq (key t) c) ts)

@@ -24,27 +24,6 @@ pub record AppendsUpTo {A : Type 0} (f : A → Data) (all left : List A) (old ne
   pub before : new.before ≡ old.before
   pub read : AreRead f left → AreRead f all
 
-pub begins : {A : Type 0} (f : A → Data) (all : List A) (old new : Written) → new.tokens ≡ old.tokens ++ begin_array ∷ [] → new.before ≡ old.before → AppendsUpTo f all all old new
-begins f all old new tokens before = record {
-  tokens = ap (λ ts. ts ++ left_tokens f all) tokens ∙ append_assoc old.tokens (begin_array ∷ []) (left_tokens f all);
-  before = before;
-  read = λ r. r;
-}
-
-pub goes_on : {A : Type 0} (f : A → Data) (all : List A) (x : A) (left : List A) (old mid new : Written) → AppendsUpTo f all (x ∷ left) old mid → Appends (f x) mid new → AppendsUpTo f all left old new
-goes_on f all x left old mid new so_far one = record {
-  tokens = ap (λ ts. ts ++ left_tokens f left) one.tokens ∙ append_assoc mid.tokens (tokens_of (f x)) (left_tokens f left) ∙ so_far.tokens;
-  before = one.before ∙ so_far.before;
-  read = λ r. so_far.read (ap (option_and_then (λ d. option_map (item d) (of_items (items_outline (items_of (map f left)))))) one.read ∙ ap (option_map (item (f x))) r);
-}
-
-pub ends : {A : Type 0} (f : A → Data) (all : List A) (old mid new : Written) → AppendsUpTo f all [] old mid → new.tokens ≡ mid.tokens ++ end_array ∷ [] → new.before ≡ mid.before → Appends (list_data (map f all)) old new
-ends f all old mid new so_far tokens before = record {
-  tokens = tokens ∙ so_far.tokens;
-  before = before ∙ so_far.before;
-  read = ap (option_map array) (so_far.read refl);
-}
-
 -- ---- objects
 
 -- of the object `d` the members up to `left` were written

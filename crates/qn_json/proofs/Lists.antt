@@ -33,12 +33,6 @@ pub ruleset places_of_views = (slice_get-map)
 
 pub ruleset views = (listed_view, length_of_views, tests_of_views, position_of_views)
 
-pub zip_of_views : {F : Type 0} (test : F → Data → Bool) (fs : List F) (vs : List Value)
-    → list_any (λ p. test p.0 p.1) (zip fs (map view vs)) ≡ list_any (λ p. test p.0 (view p.1)) (zip fs vs)
-zip_of_views test [] vs = refl
-zip_of_views test (f ∷ fs) [] = refl
-zip_of_views test (f ∷ fs) (v ∷ vs) = ap (λ b. test f (view v) || b) (zip_of_views test fs vs)
-
 pub parts_none : {A : Type 0} (a b : Option A) → option_or a b ≡ None → (a ≡ None) × (b ≡ None)
 parts_none None b e = (refl, e)
 parts_none (Some x) b e = cc

@@ -41,10 +41,6 @@ are_one form [] = false
 are_one form (x ∷ []) = form x
 are_one form (x ∷ y ∷ rest) = false
 
--- a list of one that has the form
-abbrev pub is_single : (Data → Bool) → Data → Bool
-is_single form d = option_map_or (are_one form) (list_at d) false
-
 abbrev pub are_two : (Data → Bool) → (Data → Bool) → List Data → Bool
 are_two first second [] = false
 are_two first second (x ∷ []) = false

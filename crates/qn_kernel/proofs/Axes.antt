@@ -12,9 +12,6 @@ pub record ArePaired (ks : List LegValue) (t ws us : List ℕ) (ps : List (ℕ �
   pub made : axes ≡ paired_axes ks t ws us (take i ps)
   pub small : All IsPaired axes
 
-pub paired_first : (ks : List LegValue) (t ws us : List ℕ) (ps : List (ℕ × ℕ)) → ArePaired ks t ws us ps 0 []
-paired_first ks t ws us ps = record { made = refl; small = λ k d lt. absurd (omega arith) }
-
 last : (ks : List LegValue) (t ws us : List ℕ) (ps : List (ℕ × ℕ)) (p : ℕ × ℕ) → paired_axes ks t ws us (ps ++ p ∷ []) ≡ paired_axes ks t ws us ps ++ paired_axes ks t ws us (p ∷ [])
 last ks t ws us [] p = refl
 last ks t ws us (q ∷ ps) p = ap (λ ys. paired_axes ks t ws us (q ∷ []) ++ ys) (last ks t ws us ps p)
@@ -29,6 +26,3 @@ paired_more ks t ws us ps i p axes x lt e h f g k small = record {
       ∙ ap (paired_axes ks t ws us) (sym (take_more ps i p lt));
   small = all_last IsPaired axes x h.small small;
 }
-
-pub paired_all : (ks : List LegValue) (t ws us : List ℕ) (ps : List (ℕ × ℕ)) (i : ℕ) (axes : List PairedValue) → i ≡ length ps → ArePaired ks t ws us ps i axes → axes ≡ paired_axes ks t ws us ps
-paired_all ks t ws us ps i axes e h = h.made ∙ ap (paired_axes ks t ws us) (take_all i ps (omega (arith, e)))

@@ -48,9 +48,6 @@ module _ (fs : List Factor) (ks ls : List LegValue) (shared : List (ℕ × ℕ))
     pub made : out ≡ sources fs ks ls shared turned rs ss bs ds (take i pairs)
     pub small : All (IsSource row_count col_count) out
 
-  pub gathered_first : (pairs : List (ℕ × ℕ)) → AreGathered pairs 0 []
-  gathered_first pairs = record { made = refl; small = λ k d l. absurd (omega arith) }
-
   pub gathered_more : (pairs : List (ℕ × ℕ)) (i : ℕ) (x y : BlockValue) (s : SourceValue) (out : List SourceValue) → i < length pairs → (let p = get_or pairs i (0, 0) in
       x ≡ get_or bs p.0 x → p.0 < length bs → y ≡ get_or ds p.1 y → p.1 < length ds → s ≡ source_of fs ks ls shared turned rs ss x y → IsSource s.rows s.cols s → AreGathered pairs i out → AreGathered pairs (i + 1) (out ++ s ∷ []))
   gathered_more pairs i x y s out lt e l f m g small h =
@@ -65,9 +62,6 @@ module _ (fs : List Factor) (ks ls : List LegValue) (shared : List (ℕ × ℕ))
         made = ap₂ (λ ys z. ys ++ z ∷ []) h.made (g ∙ ap₂ (source_of fs ks ls shared turned rs ss) one two) ∙ sym last;
         small = all_last (IsSource row_count col_count) out s h.small shaped;
       }
-
-  pub gathered_all : (pairs : List (ℕ × ℕ)) (i : ℕ) (out : List SourceValue) → i ≡ length pairs → AreGathered pairs i out → out ≡ sources fs ks ls shared turned rs ss bs ds pairs
-  gathered_all pairs i out e h = h.made ∙ ap (sources fs ks ls shared turned rs ss bs ds) (take_all i pairs (omega (arith, e)))
 
   pub gathered_shape : (pairs : List (ℕ × ℕ)) (i : ℕ) (out : List SourceValue) → IsTuple rs ss → AreGathered pairs i out → AreSources (block_size rs ss) out
   gathered_shape pairs i out t h = record {

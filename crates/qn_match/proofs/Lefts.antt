@@ -49,10 +49,6 @@ unmarked_none : {A : Type 0} (ms : List Bool) → unmarked {A = A} ms [] ≡ []
 unmarked_none [] = refl
 unmarked_none (m ∷ ms) = refl
 
-pub left_all : {A : Type 0} (ms : List Bool) (xs before out : List A) (i : ℕ) → length xs ≤ i → AreLeft ms xs before out i → out ≡ before ++ unmarked ms xs
-left_all {A} ms xs before out i le h =
-    sym (ap (λ ys. out ++ unmarked (drop i ms) ys) (drop_all i xs le) ∙ (ap (λ ys. out ++ ys) (unmarked_none (drop i ms)) ∙ append-nil out)) ∙ h.made
-
 pub all_unmarked : {A : Type 0} (P : A → Type 0) (ms : List Bool) (xs : List A) → All P xs → All P (unmarked ms xs)
 all_unmarked P [] xs h = All-nil P
 all_unmarked P (m ∷ ms) [] h = All-nil P

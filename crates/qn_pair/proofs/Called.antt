@@ -92,12 +92,6 @@ framed a b ps word cs places goal left ha hb pair e1 e2 e3 e4 e5 = record {
 
 -- ---- the result
 
--- the sum of the fluxes can be made
-pub record AreAdded (fs : List Factor) (p q : List ℤ) : Type 0 where
-  pub first : IsCanonical fs p
-  pub second : IsCanonical fs q
-  pub within : IsWithin (2 ^ 62) fs (sum_charge fs p q)
-
 -- what holds of the legs of both tensors holds of those that are left
 left_have : (P : LegValue → Type 0) (a b : BlockedValue) (ps : List (ℕ × ℕ)) → IsPair a b ps → All P a.legs → All P b.legs → All P (result_legs a b ps)
 left_have P a b ps pair ha hb =

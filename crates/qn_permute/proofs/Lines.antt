@@ -127,9 +127,6 @@ pub record AreAxes (ls : List LegValue) (t : List ℕ) (i n : ℕ) (out : List A
   pub size : n ≡ block_size (drop i ls) (drop i t)
   pub made : out ++ axes (drop i ls) (drop i t) ≡ axes ls t
 
-pub axes_end : (ls : List LegValue) (t : List ℕ) (i size : ℕ) (out : List Axis) → length ls ≤ i → AreAxes ls t i size out → out ≡ axes ls t
-axes_end ls t i size out le h = sym (ap (λ ks. out ++ axes ks (drop i t)) (drop_all i ls le) ∙ append-nil out) ∙ h.made
-
 pub axes_more : (ls : List LegValue) (t : List ℕ) (i size d : ℕ) (out : List Axis) (l : LegValue) → IsTuple ls t → i < length ls → l ≡ get_or ls i l → d ≡ (sector_at l.sectors (get_or t i 0)).dim → 0 < d → AreAxes ls t i size out →
     AreAxes ls t (i + 1) (size / d) (out ++ record { len = d; stride = size / d } ∷ [])
 axes_more ls t i size d out l h lt is e p a =
@@ -148,9 +145,6 @@ axes_more ls t i size d out l h lt is e p a =
 pub record IsAppended (e : ℕ → Gaussian) (f : ℕ → List ℕ) (before out : List Gaussian) (n i : ℕ) : Type 0 where
   pub made : out ++ map e (flat_map f (upward i (n - i))) ≡ before ++ map e (flat_map f (upward 0 n))
 
-pub appended_init : (e : ℕ → Gaussian) (f : ℕ → List ℕ) (out : List Gaussian) (n : ℕ) → IsAppended e f out out n 0
-appended_init e f out n = record { made = ap (λ k. out ++ map e (flat_map f (upward 0 k))) (omega arith) }
-
 pub appended_more : (e : ℕ → Gaussian) (f : ℕ → List ℕ) (before out new : List Gaussian) (n i : ℕ) → i < n → new ≡ out ++ map e (f i) → IsAppended e f before out n i → IsAppended e f before new n (i + 1)
 appended_more e f before out new n i lt is h = record {
   made =
@@ -161,11 +155,6 @@ appended_more e f before out new n i lt is h = record {
       ∙ (ap (λ xs. out ++ xs) (sym (map-append e (f i) rest))
       ∙ (sym (ap (λ j. out ++ map e (flat_map f (upward i j))) k) ∙ h.made)));
 }
-
-pub appended_all : (e : ℕ → Gaussian) (f : ℕ → List ℕ) (before out : List Gaussian) (n i : ℕ) → n ≤ i → IsAppended e f before out n i → out ≡ before ++ map e (flat_map f (upward 0 n))
-appended_all e f before out n i le h =
-    let k : n - i ≡ 0 = omega arith in
-    sym (append-nil out) ∙ (sym (ap (λ j. out ++ map e (flat_map f (upward i j))) k) ∙ h.made)
 
 -- a value of the first axis is not past the last place
 pub within_reach : (i n stride : ℕ) → i < n → i * stride ≤ (n - 1) * stride

@@ -52,11 +52,6 @@ parity_there fs (m ∷ ls) [] i l h lt = absurd h
 parity_there fs (m ∷ ls) (s ∷ ss) zero l h lt = refl
 parity_there fs (m ∷ ls) (s ∷ ss) (suc i) l h lt = parity_there fs ls ss i l h.1 (omega arith)
 
-times_some : (a b : ℕ) → 0 < a → 0 < b → 0 < a * b
-times_some zero b p q = absurd (omega arith)
-times_some (suc a) zero p q = absurd (omega arith)
-times_some (suc a) (suc b) p q = let e : suc a * suc b ≡ a * suc b + suc b = omega arith in omega arith
-
 -- the last place is in the block
 pub moved_reach : (ls : List LegValue) (t order : List ℕ) → IsOrder (length ls) order → All IsSound ls → IsTuple ls t → reach (picked no_axis (axes ls t) order) < block_size ls t
 moved_reach ls t order o s h =

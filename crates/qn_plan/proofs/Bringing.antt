@@ -36,9 +36,6 @@ module _ (law : LegsLeftAreOpen) (net : NetworkValue) (wf : IsWellFormed net) (p
   taken : IsReached net (l ∷ drop (place + 1) net.order) list w
   taken = subst (λ ls. IsReached net ls list w) (rest_at net.order place (pos 0) within ∙ ap (λ k. k ∷ drop (place + 1) net.order) (sym is)) r
 
-  pub past_here : (left : List ℤ) → left ≡ w.left → is_in int_eq l left ≡ false → IsReached net (drop (place + 1) net.order) list w
-  past_here left e h = label_past law net wf l (drop (place + 1) net.order) list w taken (ap (is_in int_eq l) (sym e) ∙ h)
-
   pub nowhere_here : (left : List ℤ) → left ≡ w.left → is_in int_eq l left ≡ true → (ss : List ShapeValue) → ss ≡ w.shapes → ((k : ℕ) → 0 ≤ k → k < length ss → is_on l (shape_at ss k).ends ≡ false) → ⊥
   nowhere_here left e h ss es f =
       label_nowhere law net wf l (drop (place + 1) net.order) list w taken (ap (is_in int_eq l) (sym e) ∙ h)

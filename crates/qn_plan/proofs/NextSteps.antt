@@ -234,15 +234,6 @@ module _ (law : LegsLeftAreOpen) (net : NetworkValue) (wf : IsWellFormed net) wh
         go (g ∷ k ∷ gs) e =
             pair_next law net wf [] [] list w r [] g [] k gs [] z.left (ap (all_products par z.left) e) 0 1 [] w.left refl refl refl (sym (ap (λ (v : WalkValue). v.left) r.walk)) (omega arith)
 
-    -- one is left
-    pub finished : length w.shapes ≤ 1 → (list ≡ planned net) × (first_wide net ≡ None)
-    finished h = go z.groups refl
-      where
-        last : all_products par z.left z.groups ≡ [] → (list ≡ planned net) × (first_wide net ≡ None)
-        last e =
-            let all : steps net ≡ r.done = r.steps ∙ ap (λ ts. r.done ++ ts) e ∙ append-nil r.done in
-            (r.planned ∙ ap (map (planned_step net)) (sym all), ap (first_wide_from net 1) all ∙ r.narrow)
-
         go : (gs : List TensorGroup) → z.groups ≡ gs → (list ≡ planned net) × (first_wide net ≡ None)
         go [] e = last (ap (all_products par z.left) e)
         go (g ∷ []) e = last (ap (all_products par z.left) e)

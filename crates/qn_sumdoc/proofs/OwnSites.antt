@@ -21,10 +21,6 @@ use Rattle.qn_parts.specs.Faults.{first_from}
 use Rattle.qn_sumdoc.specs.Objects.{Named, named}
 use Rattle.qn_sumdoc.specs.Operators.{given_of, IsOperatorOf}
 
--- clean operators are refused for nothing but memory
-pub only_memory : (fs : List Factor) (l : LegValue) (gs : List GivenOp) (i place : ℕ) → All (IsClean fs l) gs → IsOwnFault fs l gs (OpCharge i place) → ⊥
-only_memory fs l gs i place all h = h.0.here.1 (all i no_op h.0.here.0)
-
 -- the keys of a map
 abbrev pub keys_of : List (String Global × Value) → List (String Global)
 keys_of es = map (λ e. e.0) es
