@@ -79,7 +79,7 @@ start_is ls n [] i lt = absurd (omega arith)
 start_is ls n (t ∷ ts) zero lt = (refl, omega arith)
 start_is ls n (t ∷ ts) (suc i) lt = let r = start_is ls (n + block_size ls t) ts i (omega arith) in (r.0, omega (arith, r.1))
 
-take_grows : (ls : List LegValue) (ts : List (List ℕ)) (i j : ℕ) → i ≤ j → size_of ls (take i ts) ≤ size_of ls (take j ts)
+pub take_grows : (ls : List LegValue) (ts : List (List ℕ)) (i j : ℕ) → i ≤ j → size_of ls (take i ts) ≤ size_of ls (take j ts)
 take_grows ls ts zero j le = omega arith
 take_grows ls [] (suc i) j le = omega arith
 take_grows ls (t ∷ ts) (suc i) zero le = absurd (omega arith)

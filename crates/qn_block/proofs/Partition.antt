@@ -116,11 +116,11 @@ part_of ls f t ts c = by (pointwise int_eq (f t) c)
     by true = refl
     by false = omega arith
 
-sum_zero : (cs : List (List ℤ)) → sum_over (λ c. 0) cs ≡ 0
+pub sum_zero : (cs : List (List ℤ)) → sum_over (λ c. 0) cs ≡ 0
 sum_zero [] = refl
 sum_zero (c ∷ cs) = omega (arith, sum_zero cs)
 
-sum_add : (f g : List ℤ → ℕ) (cs : List (List ℤ)) → sum_over (λ c. f c + g c) cs ≡ sum_over f cs + sum_over g cs
+pub sum_add : (f g : List ℤ → ℕ) (cs : List (List ℤ)) → sum_over (λ c. f c + g c) cs ≡ sum_over f cs + sum_over g cs
 sum_add f g [] = refl
 sum_add f g (c ∷ cs) = omega (arith, sum_add f g cs)
 
@@ -129,7 +129,7 @@ sum_alike f g [] h = refl
 sum_alike f g (c ∷ cs) h = omega (arith, h c, sum_alike f g cs h)
 
 -- a charge that is not there counts for nothing, and one that is there counts once
-part_none : (x : List ℤ) (n : ℕ) (cs : List (List ℤ)) → All (λ d. slice_cmp int_cmp x d ≡ Less) cs → sum_over (λ c. cond (pointwise int_eq x c) n 0) cs ≡ 0
+pub part_none : (x : List ℤ) (n : ℕ) (cs : List (List ℤ)) → All (λ d. slice_cmp int_cmp x d ≡ Less) cs → sum_over (λ c. cond (pointwise int_eq x c) n 0) cs ≡ 0
 part_none x n [] h = refl
 part_none x n (c ∷ cs) h = by (pointwise int_eq x c) refl (part_none x n cs (λ k d lt. h (suc k) d (omega arith)))
   where

@@ -6,7 +6,7 @@ use Rattle.qn_mps.specs.declared.chain.ChainKind.{ChainKind}
 use Rattle.qn_mps.specs.declared.fault.ChainFault.{ChainFault}
 use Rattle.qn_mps.specs.declared.fault.ChainFault.TheVariants.{ChainShape, LinkClash, Memory}
 use Rattle.qn_mps.specs.Refusals.{BadLegsAt, ClashAt, IsFaultless, IsChainFault}
-use Rattle.qn_cli.proofs.OneSumFault.{first_once}
+use Rattle.qn_net.proofs.OneFault.{first_once}
 
 -- a cause other than want of memory
 abbrev pub IsCause : ChainFault → Type 0

@@ -11,10 +11,10 @@ use Rattle.qn_cli.specs.Outcomes.{Outcome, refused, passed, answered}
 use Rattle.qn_cli.specs.Networks.{IsPassingPlace}
 use Rattle.qn_cli.specs.Operators.{IsWideSite, IsPassingSite, automaton}
 use Rattle.qn_cli.specs.Brakets.{BraketValue, SaysSuchSum, IsExpectOf, IsWideExpect, IsNarrowExpect, IsPassingExpect, IsExpectText, Expects}
-use Rattle.qn_cli.proofs.OneSumFault.{first_once}
 use Rattle.qn_cli.proofs.OneNetwork.{one_wide_step, no_wide_step, one_place, no_place}
 use Rattle.qn_cli.proofs.OneOverlap.{IsFaultOutcome, one_fault_outcome, no_fault_outcome}
 use Rattle.qn_cli.proofs.SameSteps.{same_width}
+use Rattle.qn_net.proofs.OneFault.{first_once}
 
 -- a build passes first at one place
 pub one_passing_site : (v : SumValue) (s1 s2 : ℕ) (a1 a2 : List ℕ) (o1 o2 : ℕ) → IsPassingSite v s1 a1 o1 → IsPassingSite v s2 a2 o2 → passed s1 a1 o1 ≡ passed s2 a2 o2

@@ -8,28 +8,11 @@ use Rattle.qn_opsum.specs.declared.fault.SumFault.{SumFault}
 use Rattle.qn_opsum.specs.declared.fault.SumFault.TheVariants.{TermCount, SiteRange, UnknownOp, MixedFlux, Memory}
 use Rattle.qn_opsum.specs.Sums.{SumValue, TermValue, term_at}
 use Rattle.qn_opsum.specs.Refusals.{BadSite, BadName, IsGood, IsTermFault, IsFirstTermFault, AllGood, OtherCharge, IsSumFault, IsSum}
-
--- the first place is one
-pub first_once : (P : ℕ → Type 0) (i j : ℕ) → IsFirst P i → IsFirst P j → i ≡ j
-first_once P i j p q = by (cases_lt i j) (cases_lt j i)
-  where
-    by : (i < j) ⊎ (j ≤ i) → (j < i) ⊎ (i ≤ j) → i ≡ j
-    by (inl lt) d = absurd (q.before i lt p.here)
-    by (inr ge) (inl lt) = absurd (p.before j lt q.here)
-    by (inr ge) (inr le) = omega (arith, ge, le)
+use Rattle.qn_net.proofs.OneFault.{first_once}
+use Rattle.qn_gen.proofs.FermionSums.{not_good}
 
 too_many : (n : ℕ) → 32 < n → n ≤ 32 → ⊥
 too_many n p q = omega (arith, p, q)
-
--- a term at fault is not good
-not_good : (ss : List SiteValue) (gs : List (ℕ × List ℕ)) (t : ℕ) (e : SumFault) → IsTermFault ss gs t e → IsGood ss gs → ⊥
-not_good ss gs t TermCount p g = p
-not_good ss gs t (SiteRange u zero) p g = too_many (length gs) p.1 g.few
-not_good ss gs t (SiteRange u (suc i)) p g = g.sites i p.2.here
-not_good ss gs t (UnknownOp u zero) p g = p
-not_good ss gs t (UnknownOp u (suc i)) p g = g.names i p.3.here
-not_good ss gs t (MixedFlux u) p g = p
-not_good ss gs t Memory p g = p
 
 -- what is at fault in a term is one
 one_in_term : (ss : List SiteValue) (gs : List (ℕ × List ℕ)) (t : ℕ) (e f : SumFault) → IsTermFault ss gs t e → IsTermFault ss gs t f → e ≡ f

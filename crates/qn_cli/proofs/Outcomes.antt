@@ -6,7 +6,7 @@ use Rattle.qn_net.specs.declared.fault.NetFault.{NetFault}
 use Rattle.qn_net.specs.declared.fault.NetFault.TheVariants.{Memory as OutOfMemory}
 use Rattle.qn_net.specs.NetworkValues.{NetworkValue, passing_place}
 use Rattle.qn_net.specs.Passing.{StepPlace}
-use Rattle.qn_net.proofs.OneFault.{one_fault, no_fault}
+use Rattle.qn_net.proofs.OneFault.{one_fault, no_fault, first_once}
 use Rattle.qn_plan.specs.Planned.{planned, first_wide}
 use Rattle.qn_parts.specs.declared.fault.Fault.{Fault}
 use Rattle.qn_parts.specs.Faults.{fault}
@@ -29,7 +29,6 @@ use Rattle.qn_cli.specs.Brakets.{expect_text}
 use Rattle.qn_cli.specs.Generated.{IsGenerated, text_for}
 use Rattle.qn_cli.specs.Jobs.{ComesTo, is_read}
 use Rattle.qn_cli.proofs.Summaries.{same_summary}
-use Rattle.qn_cli.proofs.OneSumFault.{first_once}
 use Rattle.qn_cli.proofs.OneDocument.{some_same, none_some, both, sum_told, same_terms_fault, no_terms_fault}
 use Rattle.qn_mps.specs.SameNetworks.{SameOverlapLaw, SameExpectLaw}
 use Rattle.qn_cli.proofs.OneStates.{one_states_fault, no_pair_fault, one_pair, no_pair_with_sum_fault, one_pair_with_sum, long_states_fault}

@@ -46,11 +46,6 @@ next_piece ps i within = rw (add-one i) (ap joined (drop-cons ps i no_piece with
 pub next_number : (later : Bool) (ns : List ℕ) (i : ℕ) → i < length ns → numbers_after later (drop i ns) ≡ (comma_if later ++ decimal (get_or ns i 0)) ++ numbers_after true (drop (i + 1) ns)
 next_number later ns i within = rw (add-one i) (ap (numbers_after later) (drop-cons ns i 0 within) ∙ sym (append_assoc (comma_if later) (decimal (get_or ns i 0)) (numbers_after true (drop (suc i) ns))))
 
--- a fact is one of an error where there is one
-pub on_err : {T E : Type 0} (r : Result T E) (P : Type 0) → P → OnErr r P
-on_err (Ok x) P p = tt
-on_err (Err e) P p = p
-
 pub on_err_with : {T E : Type 0} (r : Result T E) (P Q : Type 0) → (P → Q) → OnErr r P → OnErr r Q
 on_err_with (Ok x) P Q f p = tt
 on_err_with (Err e) P Q f p = f p

@@ -24,6 +24,7 @@ use Rattle.qn_braket.specs.ChainLaws.{network_flux}
 use Rattle.qn_braket.specs.Chains.{with_labels, back_with_labels, overlap_members, overlap_network, expect_members, expect_network, IsOverlapNetwork, IsExpectNetwork}
 use Rattle.qn_cli.specs.Networks.{value_tensor}
 use Rattle.qn_cli.specs.Brakets.{scalar_tensor}
+use Rattle.qn_facts.proofs.Lists.{all_reversed}
 
 abbrev Positive : ℤ → Type 0
 Positive l = is_positive l ≡ true
@@ -53,11 +54,6 @@ shut_members (m ∷ ms) h =
     ∙ shut_members ms (All-tail HasPositive m ms h)
 
 -- ---- the labels of overlaps and expectations are positive
-
-all_reversed : {A : Type 0} (P : A → Type 0) (xs : List A) → All P xs → All P (reverse xs)
-all_reversed P [] h = h
-all_reversed P (x ∷ xs) h =
-    subst (All P) (sym (reverse_cons x xs)) (All-append P (reverse xs) (x ∷ []) (all_reversed P xs (All-tail P x xs h)) (All-cons P x [] (All-head P x xs h) (All-nil P)))
 
 one_label : (l : ℤ) → Positive l → All Positive (l ∷ [])
 one_label l p = All-cons Positive l [] p (All-nil Positive)

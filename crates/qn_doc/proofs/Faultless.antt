@@ -16,17 +16,11 @@ use Rattle.qn_net.proofs.TableLemmas.{legs_are_ends}
 use Rattle.qn_net.proofs.LineLemmas.{none_zero}
 use Rattle.qn_net.proofs.LabelledLemmas.{have_labels}
 use Rattle.qn_net.proofs.MeetingLemmas.{weight, counts, tally-cons}
-use Rattle.qn_net.proofs.OpenLemmas.{positive_suc}
+use Rattle.qn_net.proofs.OpenLemmas.{positive_suc, no_weight}
 use Rattle.qn_doc.specs.NetworksReadBack.{HasLabels}
+use Rattle.qn_net.proofs.WellFormed.{turned, in_stands, in_contains}
 
 -- ---- how often an end stands
-
-no_weight : (b : Bool) → b ≡ false → weight b ≡ 0
-no_weight true e = absurd (false≢true (sym e))
-no_weight false e = refl
-
-turned : (e f : End) → same_end e f ≡ true → same_end f e ≡ true
-turned e f h = ap (λ x. same_end x e) (sym (end_test.equal e f h)) ∙ end_test.itself e
 
 -- an end that is not there stands nowhere
 absent : (e : End) (es : List End) → is_in same_end e es ≡ false → tally e es ≡ 0
@@ -41,18 +35,6 @@ absent e (x ∷ es) h = go (same_end x e) refl (same_end e x) refl (is_in same_e
     go a p false q true r k ih = absurd (false≢true (sym k))
     go true p false q false r k ih = absurd (false≢true (sym q ∙ turned x e p))
     go false p false q false r k ih = let w : weight (same_end x e) ≡ 0 = no_weight (same_end x e) p in let t : tally e es ≡ 0 = ih r in omega (arith, s, w, t)
-
--- one that is there stands somewhere
-present : (e : End) (es : List End) → is_in same_end e es ≡ true → 0 < tally e es
-present e [] h = absurd (false≢true h)
-present e (x ∷ es) h = go (or_cases (same_end e x) (is_in same_end e es) h) (present e es)
-  where
-    s : tally e (x ∷ es) ≡ weight (same_end x e) + tally e es
-    s = tally-cons e x es
-
-    go : (same_end e x ≡ true) ⊎ (is_in same_end e es ≡ true) → (is_in same_end e es ≡ true → 0 < tally e es) → 0 < tally e (x ∷ es)
-    go (inl q) ih = let w : weight (same_end x e) ≡ 1 = counts (same_end x e) (turned e x q) in omega (arith, s, w)
-    go (inr q) ih = let r : 0 < tally e es = ih q in omega (arith, s, r)
 
 -- among distinct ends each stands once at most
 once : (es : List End) → IsDistinct same_end es → (e : End) → tally e es ≤ 1
@@ -84,14 +66,6 @@ uniform_at (s ∷ ss) h (suc i) zero l m e = suits_at s ss h.0 i (omega arith) e
 uniform_at (s ∷ ss) h (suc i) (suc j) l m e = uniform_at ss h.1 i j (omega arith) (omega arith) e
 
 -- ---- an order
-
-contained : (xs : List ℤ) (l : ℤ) → is_in int_eq l xs ≡ true → Contains xs l
-contained [] l h = absurd (false≢true h)
-contained (x ∷ xs) l h = go (or_cases (int_eq l x) (is_in int_eq l xs) h) (contained xs l)
-  where
-    go : (int_eq l x ≡ true) ⊎ (is_in int_eq l xs ≡ true) → (is_in int_eq l xs ≡ true → Contains xs l) → Contains (x ∷ xs) l
-    go (inl q) ih = (0, omega arith, sym (label_test.equal l x q))
-    go (inr q) ih = let c = ih q in (suc c.0, omega (arith, c.1), c.2)
 
 -- what stands at a place is in the list
 stands_in : (xs : List ℤ) (i : ℕ) → i < length xs → is_in int_eq (label_at xs i) xs ≡ true
@@ -142,8 +116,8 @@ module _ (ms : List LabelledMember) (order : List ℤ) (have : HaveLabels ms) (w
 
       go : (b : Bool) → is_in same_end (end (pos (suc n)) true) es ≡ b → tally (end (pos (suc n)) true) es ≡ tally (end (pos (suc n)) false) es
       go true q =
-          let a = present (end (pos (suc n)) true) es q in
-          let b = present (end (pos (suc n)) false) es (sym pair ∙ q) in
+          let a = in_stands (end (pos (suc n)) true) es q in
+          let b = in_stands (end (pos (suc n)) false) es (sym pair ∙ q) in
           let c = few (pos (suc n)) true in
           let d = few (pos (suc n)) false in
           omega (arith, a, b, c, d)
@@ -202,11 +176,11 @@ module _ (ms : List LabelledMember) (order : List ℤ) (have : HaveLabels ms) (w
       below = let e = some_end (negsuc g.1.0) g.1.2 in let l = open_label g.1.0 e.0 e.1 in omega (arith, l, g.1.1)
 
       go : (a : Bool) → is_in same_end (end (negsuc n) true) es ≡ a → ⊥
-      go true p = let t = present (end (negsuc n) true) es p in let s = legs_are_ends (negsuc n) es in absurd (omega (arith, s, t, g.0))
+      go true p = let t = in_stands (end (negsuc n) true) es p in let s = legs_are_ends (negsuc n) es in absurd (omega (arith, s, t, g.0))
       go false p = out (is_in same_end (end (negsuc n) false) es) refl
         where
           out : (b : Bool) → is_in same_end (end (negsuc n) false) es ≡ b → ⊥
-          out true q = let t = present (end (negsuc n) false) es q in let s = legs_are_ends (negsuc n) es in absurd (omega (arith, s, t, g.0))
+          out true q = let t = in_stands (end (negsuc n) false) es q in let s = legs_are_ends (negsuc n) es in absurd (omega (arith, s, t, g.0))
           out false q = false≢true (sym p ∙ (w.open_once n below ∙ ap not q))
 
   labelled : AreLabelled ms
@@ -219,7 +193,7 @@ module _ (ms : List LabelledMember) (order : List ℤ) (have : HaveLabels ms) (w
       parts = and_parts (is_positive (label_at order i)) (is_in same_end (end (label_at order i) true) es) (sym (o.positive (label_at order i)) ∙ stands_in order i b.0)
 
       none : (l : ℤ) → is_positive l ≡ true → is_in same_end (end l true) es ≡ true → IsNoPositive es l → ⊥
-      none (pos n) p q z = let t = present (end (pos n) true) es q in let s = legs_are_ends (pos n) es in absurd (omega (arith, s, t, z))
+      none (pos n) p q z = let t = in_stands (end (pos n) true) es q in let s = legs_are_ends (pos n) es in absurd (omega (arith, s, t, z))
       none (negsuc n) p q z = false≢true p
 
       go : IsNoPositive es (label_at order i) ⊎ Contains (take i order) (label_at order i) → ⊥
@@ -227,7 +201,7 @@ module _ (ms : List LabelledMember) (order : List ℤ) (have : HaveLabels ms) (w
       go (inr c) = not_before order o.distinct i b.0 c
 
   complete : LacksLabel es order → ⊥
-  complete k = k.2 (contained order (pos k.0) (o.positive (pos k.0) ∙ ap₂ (λ a b. a && b) (positive k.0 k.1) (inward k.0 k.1)))
+  complete k = k.2 (in_contains order (pos k.0) (o.positive (pos k.0) ∙ ap₂ (λ a b. a && b) (positive k.0 k.1) (inward k.0 k.1)))
     where
       positive : (n : ℕ) → 0 < legs_with (pos n) es → is_positive (pos n) ≡ true
       positive zero h = let z = zero_nowhere in absurd (omega (arith, z, h))

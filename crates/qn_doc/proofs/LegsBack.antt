@@ -10,7 +10,7 @@ use Rattle.serde_json.specs.Data.{string}
 use Rattle.qn_json.specs.Forms.{is_word}
 use Rattle.qn_charge.specs.declared.factor.Factor.{Factor}
 use Rattle.qn_charge.specs.Charges.{IsGroup}
-use Rattle.qn_charge.specs.Laws.{within_more}
+use Rattle.qn_charge.specs.Laws.{within_more, length_canonical}
 use Rattle.qn_index.specs.declared.leg.Dir.{Dir}
 use Rattle.qn_index.specs.declared.leg.Dir.TheVariants.{Out, In}
 use Rattle.qn_index.specs.Legs.{SectorValue, LegValue, HasDim, IsOf, IsSound, IsLegOf, IsLeg, total}
@@ -21,7 +21,7 @@ use Rattle.qn_parts.specs.Tensors.{is_arrow, is_leg, are_legs, leg_of, leg_fault
 use Rattle.qn_json.specs.Texts.{list_data}
 use Rattle.qn_parts.specs.TensorTexts.{arrow_word, sector_data, leg_data}
 use Rattle.qn_doc.proofs.Written.{listed_items, items_back, all_back, map_back, first_bad_none, first_from_none}
-use Rattle.qn_doc.proofs.NumbersBack.{Small, count_number, is_count_back, small_charge, charge_length, is_charge_back, charge_back, first_out_none}
+use Rattle.qn_doc.proofs.NumbersBack.{Small, count_number, is_count_back, small_charge, is_charge_back, charge_back, first_out_none}
 
 -- what is known of a sector
 pub record IsKnown (fs : List Factor) (s : SectorValue) : Type 0 where
@@ -35,7 +35,7 @@ known : (fs : List Factor) (s : SectorValue) → IsGroup fs → length fs ≤ 4 
 known fs s h few o d = record {
   few = few;
   small = small_charge fs s.charge h o.canonical (within_more 1000000000 1000000000000 fs s.charge (omega arith) o.within);
-  count = charge_length fs s.charge o.canonical;
+  count = length_canonical fs s.charge o.canonical;
   of = o;
   dim = d;
 }

@@ -79,7 +79,7 @@ fusable c =
 pub kept : (c : CombinerValue) → IsFusable c.group c.legs c.arrow → has_fused_leg c ≡ true
 kept c h = (fusable c).1 h
 
-failed : (b : Bool) → (b ≡ true → ⊥) → b ≡ false
+pub failed : (b : Bool) → (b ≡ true → ⊥) → b ≡ false
 failed true h = absurd (h refl)
 failed false h = refl
 

@@ -53,12 +53,6 @@ small_charge [] (z ∷ zs) h k w = cc
 small_charge (f ∷ fs) [] h k w = absurd k
 small_charge (f ∷ fs) (z ∷ zs) h k w = All-cons Small z zs (small_part f z h.0 k.0 w.0) (small_charge fs zs h.1 k.1 w.1)
 
-pub charge_length : (fs : List Factor) (c : List ℤ) → IsCanonical fs c → length c ≡ length fs
-charge_length [] [] k = refl
-charge_length [] (z ∷ zs) k = cc
-charge_length (f ∷ fs) [] k = absurd k
-charge_length (f ∷ fs) (z ∷ zs) k = ap suc (charge_length fs zs k.1)
-
 pub is_charge_back : (n : ℕ) (c : List ℤ) → length c ≡ n → All Small c → is_charge n (charge_data c) ≡ true
 is_charge_back n c e h =
     ap (λ ds. (length ds == n) && list_all is_whole ds) (listed_items (map whole_data c))

@@ -4,7 +4,7 @@ use Rattle.std.proofs.lemmas.List.{length-reverse, length-map, length-append}
 use Rattle.qn_charge.specs.declared.factor.Factor.{Factor}
 use Rattle.qn_charge.specs.declared.factor.Factor.TheVariants.{U1, Zn}
 use Rattle.qn_charge.specs.Charges.{IsWithin, zero_charge}
-use Rattle.qn_charge.specs.Laws.{within_more}
+use Rattle.qn_charge.specs.Laws.{within_more, within_zero}
 use Rattle.qn_index.specs.Legs.{LegValue, flipped}
 use Rattle.serde_json.specs.Data.{Data}
 use Rattle.qn_block.specs.Blocked.{BlockedValue, IsBlocked, conjugate_legs}
@@ -14,22 +14,15 @@ use Rattle.qn_net.specs.Members.MemberValue.{own, fuse, split}
 use Rattle.qn_parts.specs.Tensors.{IsOfDocument}
 use Rattle.qn_doc.specs.Combiners.{IsTable, table_legs, is_split, combiner_of}
 use Rattle.qn_doc.specs.Members.{IsPlaced, table_of}
+use Rattle.qn_block.proofs.Mirror.{conjugate_length}
 
 -- ---- the zero charge
 
-within_zero : (bound : ℕ) (fs : List Factor) → IsWithin bound fs (zero_charge fs)
-within_zero bound [] = tt
-within_zero bound (U1 fermion ∷ fs) = (omega arith, within_zero bound fs)
-within_zero bound (Zn n fermion ∷ fs) = (tt, within_zero bound fs)
-
 -- ---- the legs of a table
-
-turned_count : (ls : List LegValue) → length (conjugate_legs ls) ≡ length ls
-turned_count ls = omega (arith, length-reverse (map flipped ls), length-map ls flipped)
 
 pub table_count : (b : Bool) (c : CombinerValue) → length c.legs ≤ 31 → length (table_legs b c) ≤ 32
 table_count true c few = omega (arith, few, length-append c.legs (flipped (fused_leg c.group c.legs c.arrow) ∷ []))
-table_count false c few = omega (arith, few, turned_count c.legs)
+table_count false c few = omega (arith, few, conjugate_length c.legs)
 
 -- ---- members
 

@@ -16,22 +16,19 @@ use Rattle.qn_net.specs.NetworkValues.{NetworkValue}
 use Rattle.qn_net.specs.Refusals.{IsFaultless, network_of}
 use Rattle.qn_parts.specs.Documents.{factors_of}
 use Rattle.qn_doc.specs.Networks.{FailsBy, members_of, order_of, IsNetworkOf}
+use Rattle.qn_parts.proofs.BlockWalk.{or_first}
 
 -- a fault of the parts
 pub fails_early : (first : Option Fault) (Later : Fault → Type 0) (e : DocFault) → Fails e first → FailsBy first Later e
 fails_early first Later (Bad f) h = inl h
 fails_early first Later Memory h = tt
 
-earlier : (a b : Option Fault) (f : Fault) → a ≡ Some f → option_or a b ≡ Some f
-earlier None b f e = cc
-earlier (Some x) b f e = e
-
--- a fault of the earlier of two walks
+-- a fault of the or_first of two walks
 pub fails_first : (a b : Option Fault) (Later : Fault → Type 0) (e : DocFault) → Fails e a → FailsBy (option_or a b) Later e
-fails_first a b Later (Bad f) h = inl (earlier a b f h)
+fails_first a b Later (Bad f) h = inl (or_first a b f h)
 fails_first a b Later Memory h = tt
 
--- a fault of the later of two walks, where the earlier finds none
+-- a fault of the later of two walks, where the or_first finds none
 pub fails_then : (a b : Option Fault) (Later : Fault → Type 0) (e : DocFault) → a ≡ None → FailsBy b Later e → FailsBy (option_or a b) Later e
 fails_then None b Later e is h = h
 fails_then (Some x) b Later e is h = cc

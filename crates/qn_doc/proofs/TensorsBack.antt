@@ -25,10 +25,11 @@ use Rattle.qn_parts.specs.Documents.{group_data, factors_of, is_tensor_document,
 use Rattle.qn_parts.proofs.BlockWalk.{made_right}
 use Rattle.qn_doc.specs.TensorsReadBack.{HasGaussians, IsPrintable, canonical, TensorReadsBack, TensorTextReadsBack}
 use Rattle.qn_doc.proofs.Written.{items_back}
-use Rattle.qn_doc.proofs.NumbersBack.{Small, small_charge, charge_length, is_charge_back, charge_back, first_out_none}
+use Rattle.qn_doc.proofs.NumbersBack.{Small, small_charge, is_charge_back, charge_back, first_out_none}
 use Rattle.qn_doc.proofs.GroupsBack.{is_group_back, group_back, group_sound}
 use Rattle.qn_doc.proofs.LegsBack.{IsKnownLeg, known_legs, are_legs_back, legs_back, legs_sound}
 use Rattle.qn_doc.proofs.BlocksBack.{IsKnownBlock, known_blocks, are_blocks_back, blocks_back, blocks_sound}
+use Rattle.qn_charge.specs.Laws.{length_canonical}
 
 pub none_then : (a b : Option Fault) → a ≡ None → b ≡ None → option_or a b ≡ None
 none_then None b p q = q
@@ -57,7 +58,7 @@ module _ (t : BlockedValue) (d : Data) (h : IsPrintable t) (at : HasParts t d) w
   small = small_charge t.group t.flux h.blocked.group h.blocked.flux.canonical h.limits.flux
 
   count : length t.flux ≡ length t.group
-  count = charge_length t.group t.flux h.blocked.flux.canonical
+  count = length_canonical t.group t.flux h.blocked.flux.canonical
 
   legs_is : legs_data d ≡ map leg_data t.legs
   legs_is = ap (λ o. items (unwrap_or o null)) at.legs ∙ items_back (map leg_data t.legs)

@@ -18,12 +18,7 @@ use Rattle.qn_doc.specs.NetworkTexts.{network_data}
 use Rattle.qn_doc.specs.TensorsReadBack.{HasGaussians, IsPrintable}
 use Rattle.qn_doc.specs.NetworksReadBack.{IsNumber, IsPrintableMember, IsPrintableNetwork, HasLabels, IsDocumentOf}
 use Rattle.qn_doc.specs.WorkedDocument.{worked_matrix, worked_member, worked_text}
-
-one : {A : Type 0} (P : A → Type 0) (x : A) → P x → All P (x ∷ [])
-one P x p = All-cons P x [] p (All-nil P)
-
-two : {A : Type 0} (P : A → Type 0) (x y : A) → P x → P y → All P (x ∷ y ∷ [])
-two P x y p q = All-cons P x (y ∷ []) p (one P y q)
+use Rattle.qn_facts.proofs.Lists.{all_one, all_two}
 
 blocked : IsBlocked worked_matrix
 blocked = record {
@@ -38,8 +33,8 @@ blocked = record {
 
 entries : All HasGaussians worked_matrix.blocks
 entries =
-    two HasGaussians (single (0 ∷ 0 ∷ []) 2) (single (1 ∷ 1 ∷ []) 3)
-    (one (λ (z : Gaussian). mag z ≤ limit) (whole 2) (omega arith)) (one (λ (z : Gaussian). mag z ≤ limit) (whole 3) (omega arith))
+    all_two HasGaussians (single (0 ∷ 0 ∷ []) 2) (single (1 ∷ 1 ∷ []) 3)
+    (all_one (λ (z : Gaussian). mag z ≤ limit) (whole 2) (omega arith)) (all_one (λ (z : Gaussian). mag z ≤ limit) (whole 3) (omega arith))
 
 pub printable : IsPrintable worked_matrix
 printable = record {
@@ -58,12 +53,12 @@ document = record {
   factors = omega arith;
   some = omega arith;
   few = omega arith;
-  members = one (IsPrintableMember fermions) worked_member (record { value = (refl, printable); labels = two IsNumber (pos 1) (pos 1) (omega arith) (omega arith) });
-  ordered = one IsNumber (pos 1) (omega arith);
+  members = all_one (IsPrintableMember fermions) worked_member (record { value = (refl, printable); labels = all_two IsNumber (pos 1) (pos 1) (omega arith) (omega arith) });
+  ordered = all_one IsNumber (pos 1) (omega arith);
 }
 
 labels : All HasLabels (worked_member ∷ [])
-labels = one HasLabels worked_member (two IsLabel (pos 1) (pos 1) (some, omega arith) (some, omega arith))
+labels = all_one HasLabels worked_member (all_two IsLabel (pos 1) (pos 1) (some, omega arith) (some, omega arith))
 
 tree : tree_of worked_text ≡ Some (network_data fermions (pos 1 ∷ []) (worked_member ∷ []))
 unfolding serde_json_on_literals is_utf8 chars digits
@@ -77,7 +72,7 @@ pub worked : IsDocumentOf trace_alone worked_text
 worked = record {
   network = well_formed;
   untwisted = refl;
-  written = record { members = worked_member ∷ []; held = one (λ (m : LabelledMember). IsHeld m.member) worked_member printable.blocked; are = refl; is = refl; tree = tree };
+  written = record { members = worked_member ∷ []; held = all_one (λ (m : LabelledMember). IsHeld m.member) worked_member printable.blocked; are = refl; is = refl; tree = tree };
   printable = document;
   labels = labels;
   short = omega (arith, long);

@@ -18,7 +18,7 @@ use Rattle.qn_value.specs.Tensors.{same_values, entry_of}
 use Rattle.qn_value.specs.Rows.{when, AreBelow}
 use Rattle.qn_value.specs.Twists.{odd_among}
 use Rattle.qn_value.proofs.BlocksLemmas.{length-legs}
-use Rattle.qn_value.proofs.FluxLemmas.{parity-add, parity-turned}
+use Rattle.qn_value.proofs.FluxLemmas.{parity-add, parity-turned, xor_same}
 use Rattle.qn_value.proofs.RowsLemmas.{values-append, values_back, append_parts}
 use Rattle.qn_value.proofs.Values.{both_ways}
 use Rattle.qn_block.specs.Combiners.{CombinerValue, IsCombiner, fused_leg, fused_sectors, fused_values, stands_at}
@@ -52,10 +52,6 @@ stands_same (us ∷ uss) zero xs lt = refl
 stands_same (us ∷ uss) (suc w) xs lt = stands_same uss w xs (omega arith)
 
 -- ---- parities
-
-xor_same : (a b : Bool) → Charges.xor a b ≡ xor a b
-xor_same true b = refl
-xor_same false b = refl
 
 module _ (fs : List Factor) (g : IsGroup fs) (sectors : ℤ → List SectorValue) where
   abbrev par : Parities

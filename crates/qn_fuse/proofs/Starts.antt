@@ -19,7 +19,7 @@ use Rattle.qn_index.proofs.Places.{back, values_in as values_in_range}
 use Rattle.qn_block.specs.Combiners.{CombinerValue, IsCombiner, StartValue, start_at, starts_from, fused_starts, fused_charges, fused_leg, fused_sectors, fused_values, sector_with, tuples_with, stands_at}
 use Rattle.qn_block.proofs.Rows.{same_from}
 use Rattle.qn_block.proofs.Partition.{values_size}
-use Rattle.qn_block.proofs.Matching.{start_is, starts_length, stands_block, values_flat}
+use Rattle.qn_block.proofs.Matching.{start_is, starts_length, stands_block, values_flat, take_grows}
 use Rattle.qn_block.proofs.Located.{turns, turn_at, matched, stands_below, values_total}
 use Rattle.qn_fuse.specs.Pieces.{IsCount, IsPlace, tuples_in}
 use Rattle.qn_fuse.proofs.Flat.{get_map}
@@ -42,13 +42,6 @@ one_count ss value m n a b = by (cases_lt m n)
         upto : (n < m) ⊎ (m ≤ n) → m ≡ n
         upto (inl lt) = let p = b.above n (omega arith) (omega (arith, a.within)) in let q = a.below n lt in absurd (omega arith)
         upto (inr ge) = omega arith
-
-size_mono : (ls : List LegValue) (ts : List (List ℕ)) (i j : ℕ) → i ≤ j → size_of ls (take i ts) ≤ size_of ls (take j ts)
-size_mono ls ts zero j le = omega arith
-size_mono ls [] (suc i) zero le = absurd (omega arith)
-size_mono ls [] (suc i) (suc j) le = omega arith
-size_mono ls (t ∷ ts) (suc i) zero le = absurd (omega arith)
-size_mono ls (t ∷ ts) (suc i) (suc j) le = omega (arith, size_mono ls ts i j (omega arith))
 
 size_next : (ls : List LegValue) (ts : List (List ℕ)) (i : ℕ) → i < length ts → size_of ls (take (i + 1) ts) ≡ size_of ls (take i ts) + block_size ls (get_or ts i [])
 size_next ls ts i lt =
@@ -126,13 +119,13 @@ counted ls ts xs ys ss some e is =
           let at : i < length ts = omega (arith, long) in
           let s = start i at in
           let n = size_next ls ts i at in
-          let m = size_mono ls ts (i + 1) (length xs) (omega arith) in
+          let m = take_grows ls ts (i + 1) (length xs) (omega arith) in
           let p : 0 < block_size ls (get_or ts i []) = some i [] at in
           omega (arith, s, n, m, p, whole);
       above = λ i ge lt.
           let at : i < length ts = omega (arith, lt, many) in
           let s = start i at in
-          let m = size_mono ls ts (length xs) i ge in
+          let m = take_grows ls ts (length xs) i ge in
           omega (arith, s, m, whole);
     }
   where
@@ -213,10 +206,10 @@ place_is c t value sector offset hc ht st lt inner sum =
         (x y : ℕ) → size_of c.legs (take n (turns c.group c.legs c.arrow)) ≡ x + y → before (fused_sectors c.group c.legs c.arrow) sector ≡ x → (sector_at (fused_sectors c.group c.legs c.arrow) sector).dim ≡ y →
         (i < n) ⊎ (n ≤ i) → offset + block_size c.legs t ≤ (sector_at (fused_sectors c.group c.legs c.arrow) sector).dim
     fits i n at next x y high start size (inl less) =
-        let m = size_mono c.legs (turns c.group c.legs c.arrow) (i + 1) n (omega arith) in
+        let m = take_grows c.legs (turns c.group c.legs c.arrow) (i + 1) n (omega arith) in
         omega (arith, at, next, high, start, size, m, sum)
     fits i n at next x y high start size (inr ge) =
-        let m = size_mono c.legs (turns c.group c.legs c.arrow) n i ge in
+        let m = take_grows c.legs (turns c.group c.legs c.arrow) n i ge in
         absurd (omega (arith, at, high, start, size, m, sum, inner))
 
 -- first values, one leg more

@@ -20,7 +20,7 @@ use Rattle.qn_index.specs.Weights.{remaining}
 use Rattle.qn_index.proofs.Admitted.{entries_step, total_over, total_same, mul_add, net_canonical}
 use Rattle.qn_index.proofs.Shapes.{length_tuples}
 use Rattle.qn_block.specs.Combiners.{CombinerValue, IsCombiner, fused_leg, fused_charge, fused_charges, put, put_by, ascending_once, tuples_with, values_with, sector_with}
-use Rattle.qn_block.proofs.Partition.{Ascends, once_ascends, charges_total, sum_over, values_size}
+use Rattle.qn_block.proofs.Partition.{Ascends, once_ascends, charges_total, sum_over, values_size, sum_zero, sum_add, part_none}
 use Rattle.qn_block.proofs.Located.{turned_twice}
 use Rattle.qn_fuse.specs.Fused.{wide_legs, narrow_legs}
 
@@ -141,14 +141,6 @@ entries_by fs (l ∷ ls) B q g k =
 less_tied : Less ≡ Equal → ⊥
 less_tied e = cc
 
-part_none : (x : List ℤ) (n : ℕ) (cs : List (List ℤ)) → All (λ d. slice_cmp int_cmp x d ≡ Less) cs → sum_over (λ c. cond (pointwise int_eq x c) n 0) cs ≡ 0
-part_none x n [] h = refl
-part_none x n (c ∷ cs) h = by (pointwise int_eq x c) refl (part_none x n cs (λ k d lt. h (suc k) d (omega arith)))
-  where
-    by : (b : Bool) → pointwise int_eq x c ≡ b → sum_over (λ c. cond (pointwise int_eq x c) n 0) cs ≡ 0 → cond b n 0 + sum_over (λ c. cond (pointwise int_eq x c) n 0) cs ≡ 0
-    by true e more = absurd (less_tied (sym (h 0 c (omega arith)) ∙ subst (λ y. slice_cmp int_cmp x y ≡ Equal) ((signed_items x c).0 e) (tied_itself charges_total x)))
-    by false e more = omega (arith, more)
-
 part_once : (x : List ℤ) (n : ℕ) (cs : List (List ℤ)) → Ascends cs → sum_over (λ c. cond (pointwise int_eq x c) n 0) cs ≤ n
 part_once x n [] a = omega arith
 part_once x n (c ∷ cs) a = by (pointwise int_eq x c) refl (part_once x n cs a.1)
@@ -159,18 +151,10 @@ part_once x n (c ∷ cs) a = by (pointwise int_eq x c) refl (part_once x n cs a.
         omega (arith, none)
     by false e more = omega (arith, more)
 
-sum_add : (f g : List ℤ → ℕ) (cs : List (List ℤ)) → sum_over (λ c. f c + g c) cs ≡ sum_over f cs + sum_over g cs
-sum_add f g [] = refl
-sum_add f g (c ∷ cs) = omega (arith, sum_add f g cs)
-
-sum_none : (cs : List (List ℤ)) → sum_over (λ c. 0) cs ≡ 0
-sum_none [] = refl
-sum_none (c ∷ cs) = omega (arith, sum_none cs)
-
 -- charge by charge there is no more than in all
 parts_within : (key : List ℕ → List ℤ) (h : List ℕ → ℕ) (ts : List (List ℕ)) (cs : List (List ℤ)) → Ascends cs →
     sum_over (λ c. sum_over h (filter (λ t. pointwise int_eq (key t) c) ts)) cs ≤ sum_over h ts
-parts_within key h [] cs a = omega (arith, sum_none cs)
+parts_within key h [] cs a = omega (arith, sum_zero cs)
 parts_within key h (t ∷ ts) cs a =
     let step = sum_same (λ c. sum_over h (filter (λ u. pointwise int_eq (key u) c) (t ∷ ts))) (λ c. cond (pointwise int_eq (key t) c) (h t) 0 + sum_over h (filter (λ u. pointwise int_eq (key u) c) ts)) cs first in
     omega (arith, step, sum_add (λ c. cond (pointwise int_eq (key t) c) (h t) 0) (λ c. sum_over h (filter (λ u. pointwise int_eq (key u) c) ts)) cs, part_once (key t) (h t) cs a, parts_within key h ts cs a)

@@ -17,7 +17,7 @@ use Rattle.qn_kernel.specs.Sources.{SourceValue, IsFrame, IsSource, IsPaired, co
 use Rattle.qn_kernel.proofs.Starts.{row_start, col_start}
 use Rattle.qn_kernel.proofs.Places.{range_append}
 
-below_all : (a n : ℕ) → All (λ i. i < a + n) (range_with_len a n)
+pub below_all : (a n : ℕ) → All (λ i. i < a + n) (range_with_len a n)
 below_all a zero = λ k d l. absurd (omega arith)
 below_all a (suc n) = All-cons (λ i. i < a + suc n) a (range_with_len (a + 1) n) (omega arith) (λ k d l. let r : get_or (range_with_len (a + 1) n) k d < a + 1 + n = below_all (a + 1) n k d l in omega (arith, r))
 

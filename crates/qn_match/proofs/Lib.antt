@@ -7,5 +7,5 @@ mod Lefts
 pub mod OpenLegs
 mod Paired
 mod Radix
-mod Sharing
+pub mod Sharing
 mod Summing

@@ -39,9 +39,10 @@ use Rattle.qn_strides.proofs.Blocks.{over_tuples, have_tuples, distinct_blocks}
 use Rattle.qn_strides.proofs.Reals.{real, real_add, real_zero, real_below}
 use Rattle.qn_kernel.specs.Sources.{couples_of, PairedValue, paired_axes, sum_both, total_both, product_at, source_of, sources, source_term, entry_sum}
 use Rattle.qn_kernel.proofs.Frames.{tuple_joined}
-use Rattle.qn_pair.proofs.Words.{range_append, coupling}
+use Rattle.qn_pair.proofs.Words.{coupling}
 use Rattle.qn_pair.proofs.Weighed.{first_ends, second_ends, shifted}
 use Rattle.qn_pair.proofs.Terms.{pair_term, first_blocked, second_blocked, legs_first, legs_second, flat_pairs}
+use Rattle.qn_kernel.proofs.Places.{range_append}
 
 -- ---- sums over pairs of positions
 

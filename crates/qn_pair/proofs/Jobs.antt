@@ -12,6 +12,7 @@ use Rattle.qn_pair.specs.Steps.{result_flux}
 use Rattle.qn_pair.specs.Jobs.{JobValue, tuples_of, tuple_at, share_at, cost_of_job, ArePriced}
 use Rattle.qn_pair.proofs.Listed.{left_same}
 use Rattle.qn_pair.proofs.Loops.{below, sum_bound}
+use Rattle.qn_match.proofs.Sharing.{sum_map}
 
 below_first : (f : ℕ → ℕ) (n : ℕ) → below f (suc n) ≡ f 0 + below (λ k. f (suc k)) n
 below_first f zero = omega arith
@@ -25,15 +26,11 @@ below_list f d [] = ap (λ n. n) (sym nothing)
 below_list f d (x ∷ xs) =
     below_first (λ k. f (get_or (x ∷ xs) k d)) (length xs) ∙ ap (λ n. f x + n) (below_list f d xs) ∙ sym (sum_by-cons f x xs)
 
-sum_mapped : {A B : Type 0} (f : B → ℕ) (g : A → B) (xs : List A) → sum_by f (map g xs) ≡ sum_by (λ x. f (g x)) xs
-sum_mapped f g [] = omega arith
-sum_mapped f g (x ∷ xs) = sum_by-cons f (g x) (map g xs) ∙ ap (λ n. f (g x) + n) (sum_mapped f g xs) ∙ sym (sum_by-cons (λ y. f (g y)) x xs)
-
 shares_all : (j : JobValue) → SharesWithinCost → IsPair j.first j.second j.shared → below (share_at j) (length (tuples_of j)) ≤ cost_of_job j
 shares_all j law pair =
     let f : List ℕ → ℕ = share_of j.first.group j.first.legs j.first.flux j.second.legs j.second.flux j.shared in
     let one : below (share_at j) (length (tuples_of j)) ≡ sum_by f (tuples_of j) = below_list f [] (tuples_of j) in
-    let two : sum_by (λ (t : TaskValue). f t.out) (map (task_for j.shared j.first.blocks j.second.blocks) (tuples_of j)) ≡ sum_by f (tuples_of j) = sum_mapped (λ (t : TaskValue). f t.out) (task_for j.shared j.first.blocks j.second.blocks) (tuples_of j) in
+    let two : sum_by (λ (t : TaskValue). f t.out) (map (task_for j.shared j.first.blocks j.second.blocks) (tuples_of j)) ≡ sum_by f (tuples_of j) = sum_map (λ (t : TaskValue). f t.out) (task_for j.shared j.first.blocks j.second.blocks) (tuples_of j) in
     let same : sum_by (λ (t : TaskValue). f t.out) (tasks j.first j.second j.shared) ≡ sum_by (λ (t : TaskValue). f t.out) (map (task_for j.shared j.first.blocks j.second.blocks) (tuples_of j)) =
     ap (λ ls. sum_by (λ (t : TaskValue). f t.out) (map (task_for j.shared j.first.blocks j.second.blocks) (admitted j.first.group ls (result_flux j.first j.second)))) (left_same j pair) in
     omega (arith, one, two, same, law j.first j.second j.shared)

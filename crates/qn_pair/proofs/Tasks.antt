@@ -30,6 +30,7 @@ use Rattle.qn_pair.proofs.Words.{result_is}
 use Rattle.qn_pair.proofs.Listed.{left_same}
 use Rattle.qn_pair.proofs.Contracted.{entry_is}
 use Rattle.qn_pair.proofs.Amounts.{amount_is}
+use Rattle.qn_kernel.proofs.Splits.{below_all}
 
 pub if_ok : {A E : Type 0} (P Q : A → Type 0) (r : Result A E) → ((x : A) → P x → Q x) → IfOk r P → IfOk r Q
 if_ok P Q (Ok x) f h = f x h
@@ -51,10 +52,6 @@ found_some p P Q x e h = subst (λ q. MatchOption q P Q) e h
 
 -- ---- the pairs of a task
 
-range_all : (a n : ℕ) → All (λ i. i < a + n) (range_with_len a n)
-range_all a zero = λ k d l. absurd (omega arith)
-range_all a (suc n) = All-cons (λ i. i < a + suc n) a (range_with_len (a + 1) n) (omega arith) (λ k d l. let r : get_or (range_with_len (a + 1) n) k d < a + 1 + n = range_all (a + 1) n k d l in omega (arith, r))
-
 all_flat : {X Y : Type 0} (P : Y → Type 0) (f : X → List Y) (xs : List X) → All (λ x. All P (f x)) xs → All P (flat_map f xs)
 all_flat P f [] h = All-nil P
 all_flat P f (x ∷ xs) h = All-append P (f x) (flat_map f xs) (h 0 x (omega arith)) (all_flat P f xs (λ k d l. h (suc k) d (omega arith)))
@@ -64,14 +61,14 @@ first_there ps bs ds ss =
     All-filter (λ p. give ps ss (block_at bs p.0).tuple (block_at ds p.1).tuple) (λ (p : ℕ × ℕ). p.0 < length bs) (all_pairs (length bs) (length ds))
     (all_flat (λ (p : ℕ × ℕ). p.0 < length bs) (λ i. map (λ j. (i, j)) (positions (length ds))) (positions (length bs))
     (λ k d l. let i : ℕ = get_or (positions (length bs)) k d in
-    All-map (λ (p : ℕ × ℕ). p.0 < length bs) (λ (j : ℕ). (i, j)) (positions (length ds)) (λ m e n. let r : i < 0 + length bs = range_all 0 (length bs) k d l in omega (arith, r))))
+    All-map (λ (p : ℕ × ℕ). p.0 < length bs) (λ (j : ℕ). (i, j)) (positions (length ds)) (λ m e n. let r : i < 0 + length bs = below_all 0 (length bs) k d l in omega (arith, r))))
 
 pub second_there : (ps : List (ℕ × ℕ)) (bs ds : List BlockValue) (ss : List ℕ) → All (λ p. p.1 < length ds) (pairs_for ps bs ds ss)
 second_there ps bs ds ss =
     All-filter (λ p. give ps ss (block_at bs p.0).tuple (block_at ds p.1).tuple) (λ (p : ℕ × ℕ). p.1 < length ds) (all_pairs (length bs) (length ds))
     (all_flat (λ (p : ℕ × ℕ). p.1 < length ds) (λ i. map (λ j. (i, j)) (positions (length ds))) (positions (length bs))
     (λ k d l. let i : ℕ = get_or (positions (length bs)) k d in
-    All-map (λ (p : ℕ × ℕ). p.1 < length ds) (λ (j : ℕ). (i, j)) (positions (length ds)) (λ m e n. let r : get_or (positions (length ds)) m e < 0 + length ds = range_all 0 (length ds) m e n in omega (arith, r))))
+    All-map (λ (p : ℕ × ℕ). p.1 < length ds) (λ (j : ℕ). (i, j)) (positions (length ds)) (λ m e n. let r : get_or (positions (length ds)) m e < 0 + length ds = below_all 0 (length ds) m e n in omega (arith, r))))
 
 pub readable : (fs : List Factor) (ls : List LegValue) (q : List ℤ) (bs : List BlockValue) → All (IsBlock fs ls q) bs → All (IsReadable ls) bs
 readable fs ls q bs h k d l = let b : IsBlock fs ls q (get_or bs k d) = h k d l in (b.tuple, b.small)

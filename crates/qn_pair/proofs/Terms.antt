@@ -30,8 +30,9 @@ use Rattle.qn_strides.proofs.Opens.{place_same, length_maps, ends_distinct, left
 use Rattle.qn_strides.proofs.Blocks.{over_tuples}
 use Rattle.qn_kernel.specs.Sources.{couples_of, paired_axes, sum_both, product_at}
 use Rattle.qn_kernel.proofs.Frames.{tuple_joined}
-use Rattle.qn_pair.proofs.Words.{range_append, gives_are}
+use Rattle.qn_pair.proofs.Words.{gives_are}
 use Rattle.qn_pair.proofs.Weighed.{both_axes, first_ends, second_ends, shifted, both_along, axes_agree}
+use Rattle.qn_kernel.proofs.Places.{range_append}
 
 -- what two blocks add to an entry of the contraction; `odd` gives the parities of their sectors
 abbrev pub pair_term : List LegValue → List LegValue → List (ℕ × ℕ) → (List ℕ → List Bool) → List ℕ → ℕ → BlockValue → BlockValue → Gaussian

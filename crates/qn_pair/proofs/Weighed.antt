@@ -24,7 +24,7 @@ use Rattle.qn_strides.proofs.Goal.{perm_goal, bonds_at, end_at, numbered, open_l
 use Rattle.qn_strides.proofs.Along.{weigh, weigh-perm, weigh-append, map-map, offset_weigh, coupled_sum, couple_weigh, bonds, AreDims, earlier, steady-add, open_steady, start_weigh}
 use Rattle.qn_strides.proofs.Striding.{strides_long}
 use Rattle.qn_kernel.specs.Sources.{PairedValue, paired_axes, sum_both, couples_of}
-use Rattle.qn_pair.proofs.Words.{range_append}
+use Rattle.qn_kernel.proofs.Places.{range_append}
 
 -- past the end there is no stride
 get_past : (ws : List ℕ) (i : ℕ) → length ws ≤ i → get_or ws i 0 ≡ 0

@@ -20,6 +20,7 @@ use Rattle.qn_match.proofs.OpenLegs.{shifted}
 use Rattle.qn_value.proofs.PlacedLemmas.{all_others}
 use Rattle.qn_value.proofs.PlacedLemmas.{all_first}
 use Rattle.qn_block.proofs.Dagger.{same_flips}
+use Rattle.qn_kernel.proofs.Places.{range_append}
 
 apart : (i j : ℕ) → (i ≡ j → ⊥) → (i == j) ≡ false
 apart i j h = go (i == j) refl
@@ -41,19 +42,6 @@ coupled_second n (p ∷ ps) j h =
     let l : p.0 < n = all_first (λ (q : ℕ × ℕ). q.0 < n) p ps h in
     ap (λ b. b || ((n + j == n + p.1) || is_coupled (couples_of n ps) (n + j))) (apart (n + j) p.0 (λ e. absurd (omega (arith, e, l))))
     ∙ ap₂ (λ a b. a || b) (shifted n j p.1) (coupled_second n ps j (all_others (λ (q : ℕ × ℕ). q.0 < n) p ps h))
-
-pub range_append : (a m n : ℕ) → range_with_len a (m + n) ≡ range_with_len a m ++ range_with_len (a + m) n
-range_append a zero n = ap₂ range_with_len here (zero-add n)
-  where
-    here : a ≡ a + 0
-    here = omega arith
-range_append a (suc m) n = ap (range_with_len a) split ∙ ap (λ xs. a ∷ xs) (range_append (a + 1) m n ∙ ap (λ k. range_with_len (a + 1) m ++ range_with_len k n) next)
-  where
-    split : suc m + n ≡ suc (m + n)
-    split = omega arith
-
-    next : a + 1 + m ≡ a + suc m
-    next = omega arith
 
 unmarked_range : {A : Type 0} (d : A) (g : ℕ → A) (test mark : ℕ → Bool) (a b : ℕ) (xs : List A) → ((k : ℕ) → k < length xs → g (a + k) ≡ get_or xs k d) → ((k : ℕ) → k < length xs → test (a + k) ≡ mark (b + k)) →
     unmarked (map mark (range_with_len b (length xs))) xs ≡ map g (filter (λ i. not (test i)) (range_with_len a (length xs)))

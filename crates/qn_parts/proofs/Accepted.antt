@@ -24,12 +24,9 @@ use Rattle.qn_parts.specs.Sectors.{is_part_out, first_out, has_charge_out, is_di
 use Rattle.qn_json.specs.Tree.{items}
 use Rattle.qn_json.proofs.Lists.{parts_none, or_false}
 use Rattle.qn_parts.proofs.Ranges.{part_in}
+use Rattle.qn_facts.proofs.Options.{none_head}
 
-passed : {A : Type 0} (b : Bool) (x : A) (r : Option A) → cond b (Some x) r ≡ None → (b ≡ false) × (r ≡ None)
-passed true x r e = cc
-passed false x r e = (refl, e)
-
-not_mapped : {A B : Type 0} (f : A → B) (o : Option A) → option_map f o ≡ None → o ≡ None
+pub not_mapped : {A B : Type 0} (f : A → B) (o : Option A) → option_map f o ≡ None → o ≡ None
 not_mapped f None e = refl
 not_mapped f (Some x) e = cc
 
@@ -52,8 +49,8 @@ sound_list : (ds : List Data) (n m : ℕ) → first_from modulus_fault n ds ≡ 
 sound_list [] n m a b = tt
 sound_list (d ∷ ds) n m a b =
     let here = parts_none (fault_if (has_bad_modulus d) (fault 5 0 n 0)) (first_from modulus_fault (n + 1) ds) a in
-    let odd = passed (is_odd_fermion d) m (position_from is_odd_fermion (m + 1) ds) b in
-    (sound_factor (is_cyclic d) (modulus d) (is_fermionic d) (passed (has_bad_modulus d) (fault 5 0 n 0) None here.0).0 odd.0, sound_list ds (n + 1) (m + 1) here.1 odd.1)
+    let odd = none_head (is_odd_fermion d) m (position_from is_odd_fermion (m + 1) ds) b in
+    (sound_factor (is_cyclic d) (modulus d) (is_fermionic d) (none_head (has_bad_modulus d) (fault 5 0 n 0) None here.0).0 odd.0, sound_list ds (n + 1) (m + 1) here.1 odd.1)
 
 -- factors without a fault are a group
 pub sound_factors : (ds : List Data) → group_fault ds ≡ None → IsGroup (map factor_of ds)
@@ -95,9 +92,9 @@ parts_inside : (bound : ℤ) (fs : List Factor) (xs : List ℤ) (n j : ℕ) → 
 parts_inside bound [] xs n j len e o = omega (arith, o.0)
 parts_inside bound (f ∷ fs) [] n j len e o = omega (arith, len)
 parts_inside bound (f ∷ fs) (x ∷ xs) n zero len e o =
-    part_in bound f x (passed (is_part_out bound f x) n (position_from (out bound) (n + 1) (zip fs xs)) e).0 o.1
+    part_in bound f x (none_head (is_part_out bound f x) n (position_from (out bound) (n + 1) (zip fs xs)) e).0 o.1
 parts_inside bound (f ∷ fs) (x ∷ xs) n (suc j) len e o =
-    parts_inside bound fs xs (n + 1) j (omega (arith, len)) (passed (is_part_out bound f x) n (position_from (out bound) (n + 1) (zip fs xs)) e).1 (omega (arith, o.0), o.1)
+    parts_inside bound fs xs (n + 1) j (omega (arith, len)) (none_head (is_part_out bound f x) n (position_from (out bound) (n + 1) (zip fs xs)) e).1 (omega (arith, o.0), o.1)
 
 not_some : {A : Type 0} (o : Option A) → is_some o ≡ false → o ≡ None
 not_some None e = refl
@@ -110,10 +107,10 @@ charges_inside : (fs : List Factor) (ds : List Data) (n i : ℕ) → length fs �
 charges_inside fs [] n i few e o = omega (arith, o.0)
 charges_inside fs (d ∷ ds) n zero few e o =
     let charge : List ℤ = (sector_of fs d).charge in
-    let here = passed (has_charge_out fs d) n (position_from (has_charge_out fs) (n + 1) ds) e in
+    let here = none_head (has_charge_out fs d) n (position_from (has_charge_out fs) (n + 1) ds) e in
     parts_inside (pos 1000000000) fs charge 0 o.1.0 (numbers_length (length fs) (items (first_of_pair (items d))) few) (not_some (first_out (pos 1000000000) fs charge) here.0) o.1.1
 charges_inside fs (d ∷ ds) n (suc i) few e o =
-    charges_inside fs ds (n + 1) i few (passed (has_charge_out fs d) n (position_from (has_charge_out fs) (n + 1) ds) e).1 (omega (arith, o.0), o.1)
+    charges_inside fs ds (n + 1) i few (none_head (has_charge_out fs d) n (position_from (has_charge_out fs) (n + 1) ds) e).1 (omega (arith, o.0), o.1)
 
 dim_inside : (most t : ℕ) (z : ℤ) → is_dim_out most t z ≡ false → (1 ≤ unsigned_abs z) × (unsigned_abs z ≤ 65536) × (t + unsigned_abs z ≤ most)
 dim_inside most t (negsuc n) e = absurd (true≢false e)
@@ -127,10 +124,10 @@ dims_inside : (fs : List Factor) (most : ℕ) (at : ℕ → Fault) (t k : ℕ) (
     → (1 ≤ (sector_at (map (sector_of fs) ds) i).dim) × ((sector_at (map (sector_of fs) ds) i).dim ≤ 65536) × (t + before (map (sector_of fs) ds) (suc i) ≤ most)
 dims_inside fs most at t k [] i e lt = absurd (omega (arith, lt))
 dims_inside fs most at t k (d ∷ ds) zero e lt =
-    let here = dim_inside most t (dim_of d) (passed (is_dim_out most t (dim_of d)) (at k) (dims_fault most at (t + unsigned_abs (dim_of d)) (k + 1) ds) e).0 in
+    let here = dim_inside most t (dim_of d) (none_head (is_dim_out most t (dim_of d)) (at k) (dims_fault most at (t + unsigned_abs (dim_of d)) (k + 1) ds) e).0 in
     (here.0, here.1, omega (arith, here.2))
 dims_inside fs most at t k (d ∷ ds) (suc i) e lt =
-    let later = dims_inside fs most at (t + unsigned_abs (dim_of d)) (k + 1) ds i (passed (is_dim_out most t (dim_of d)) (at k) (dims_fault most at (t + unsigned_abs (dim_of d)) (k + 1) ds) e).1 (omega (arith, lt)) in
+    let later = dims_inside fs most at (t + unsigned_abs (dim_of d)) (k + 1) ds i (none_head (is_dim_out most t (dim_of d)) (at k) (dims_fault most at (t + unsigned_abs (dim_of d)) (k + 1) ds) e).1 (omega (arith, lt)) in
     (later.0, later.1, omega (arith, later.2))
 
 bad_dim : (fs : List Factor) (at : ℕ → Fault) (ds : List Data) (i : ℕ) → dims_fault 1048576 at 0 1 ds ≡ None → BadDim (map (sector_of fs) ds) i → ⊥
@@ -163,7 +160,7 @@ leg_accepted fs tensor part ds e few none = by e
     later = parts_none dims count (parts_none charges (option_or dims count) none).1
 
     number : ((length ds == 0) ≡ false) × (nat_lt 64 (length ds) ≡ false)
-    number = or_false (length ds == 0) (nat_lt 64 (length ds)) (passed (length ds == 0 || nat_lt 64 (length ds)) (fault 11 tensor part 0) None later.1).0
+    number = or_false (length ds == 0) (nat_lt 64 (length ds)) (none_head (length ds == 0 || nat_lt 64 (length ds)) (fault 11 tensor part 0) None later.1).0
 
     by : (e : LegFault) → IsFirstLegFault fs (map (sector_of fs) ds) e → ⊥
     by (ChargeRange i) h = charges_inside fs ds 0 i few first h.here

@@ -38,7 +38,7 @@ cond_false : {A : Type 0} (b : Bool) (x y : A) → b ≡ false → cond b x y �
 cond_false true x y e = cc
 cond_false false x y e = refl
 
-or_first : (a b : Option Fault) (f : Fault) → a ≡ Some f → option_or a b ≡ Some f
+pub or_first : (a b : Option Fault) (f : Fault) → a ≡ Some f → option_or a b ≡ Some f
 or_first (Some g) b f e = e
 or_first None b f e = cc
 

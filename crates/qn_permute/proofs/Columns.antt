@@ -35,12 +35,6 @@ pub map_within : {A : Type 0} (n : ℕ) (f g : ℕ → A) (ks : List ℕ) → Al
 map_within n f g [] h e = refl
 map_within n f g (k ∷ ks) h e = ap₂ (λ z zs. z ∷ zs) (e k (h 0 0 (omega arith))) (map_within n f g ks (λ i d lt. h (suc i) d (omega arith)) e)
 
-pub perm_map : {A B : Type 0} (f : A → B) {xs ys : List A} → Perm xs ys → Perm (map f xs) (map f ys)
-perm_map f none = none
-perm_map f (keep p) = keep (perm_map f p)
-perm_map f swap = swap
-perm_map f (then_by p q) = then_by (perm_map f p) (perm_map f q)
-
 -- lists that are the same at each position of an order are the same
 same_there : {A : Type 0} (f g : ℕ → A) (ks : List ℕ) (k : ℕ) → map f ks ≡ map g ks → is_in ◌==◌ k ks ≡ true → f k ≡ g k
 same_there f g [] k e h = absurd (cc h)

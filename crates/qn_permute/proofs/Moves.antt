@@ -35,10 +35,11 @@ use Rattle.qn_block.proofs.Lookup.{one_block, entry_found, entry_nowhere, values
 use Rattle.qn_permute.specs.declared.axis.Axis.{Axis}
 use Rattle.qn_permute.specs.Axes.{no_axis, axes, places, reach, entry_at_place}
 use Rattle.qn_permute.specs.Moved.{sector_parities, block_sign, moved_entries, moved_block, is_before}
-use Rattle.qn_permute.proofs.Columns.{picked_all, picked_only, map_within, net_perm, size_perm, tuple_columns, inner_columns, values_columns, sectors_columns, offsets_columns, perm_map}
+use Rattle.qn_permute.proofs.Columns.{picked_all, picked_only, map_within, net_perm, size_perm, tuple_columns, inner_columns, values_columns, sectors_columns, offsets_columns}
 use Rattle.qn_permute.proofs.Widths.{count_perm, entries_perm}
 use Rattle.qn_permute.proofs.Sorted.{AreApart, apart_perm, sorted_ascend}
 use Rattle.qn_permute.proofs.Lines.{along, along_perm, along_own, reach_perm, reach_own, length_places, place_there, axis_there, axes_length}
+use Rattle.qn_value.proofs.Sums.{perm-map}
 pub use Rattle.qn_index.proofs.Admitted.{block_some}
 
 pub parities_length : (fs : List Factor) (ls : List LegValue) (t : List ℕ) → IsTuple ls t → length (sector_parities fs ls t) ≡ length ls
@@ -186,7 +187,7 @@ module _ (fs : List Factor) (ls : List LegValue) (order : List ℕ) (o : IsOrder
   only t u a b e = picked_only 0 t u order (b ∙ sym a) (subst (λ n. Perm (positions n) order) (sym a) perm) e
 
   legs_perm : Perm ls (picked no_leg ls order)
-  legs_perm = subst (λ ks. Perm ks (picked no_leg ls order)) (all_of no_leg ls refl) (perm_map (λ k. get_or ls k no_leg) perm)
+  legs_perm = subst (λ ks. Perm ks (picked no_leg ls order)) (all_of no_leg ls refl) (perm-map (λ k. get_or ls k no_leg) perm)
 
   moved_limits : (q : List ℤ) → IsGroup fs → IsFlux fs q → IsWithinLimits fs ls q → IsWithinLimits fs (picked no_leg ls order) q
   moved_limits q g f h = record {

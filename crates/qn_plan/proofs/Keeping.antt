@@ -67,12 +67,3 @@ module _ (fs : List Factor) (group : IsGroup fs) (sectors : ℤ → List SectorV
 
       legs : legs_left (labels bonds) g.node.ends (legs_on sectors g.node.ends) ≡ legs_on sectors (kept (g.node ∷ []) bonds)
       legs = legs_left_on sectors (labels bonds) g.node.ends ∙ ap (legs_on sectors) ends
-
--- the labels of chosen bonds
-pub labels_select : (q : ℤ → Bool) (bs : List Bond) → labels (select q bs) ≡ filter q (labels bs)
-labels_select q [] = refl
-labels_select q (b ∷ bs) = go (q b.label) (labels_select q bs)
-  where
-    go : (t : Bool) → labels (select q bs) ≡ filter q (labels bs) → labels (cond t (b ∷ select q bs) (select q bs)) ≡ cond t (b.label ∷ filter q (labels bs)) (filter q (labels bs))
-    go true e = ap (λ ls. b.label ∷ ls) e
-    go false e = e

@@ -15,12 +15,11 @@ use Rattle.qn_net.specs.Steps.Step.{pair, trace}
 use Rattle.qn_net.specs.Plans.{plan, taken, select, shared, coupled, all_products, NoneHave}
 use Rattle.qn_net.specs.Carried.{IsSoundState, AllSound}
 use Rattle.qn_net.specs.NetworkValues.{NetworkValue, parities, sectors, opens, steps, IsWellFormed}
-use Rattle.qn_net.proofs.PlanFind.{taken_none, taken_trace, taken_pair, both_on, bond_ends, none_word}
+use Rattle.qn_net.proofs.PlanFind.{taken_none, taken_trace, taken_pair, both_on, bond_ends, none_word, labels-select}
 use Rattle.qn_plan.specs.Shapes.{ShapeValue, WalkValue, shape_of, shape_at, is_on, is_couple}
 use Rattle.qn_plan.specs.Planned.{StepValue, planned_step, planned, first_wide_from, first_wide}
 use Rattle.qn_plan.specs.Reached.{state_after, IsReached}
 use Rattle.qn_plan.specs.Taking.{IsPairNext, IsTraceNext}
-use Rattle.qn_plan.proofs.Keeping.{labels_select}
 use Rattle.qn_plan.proofs.Finding.{shapes, FoundAt, found_at, none_found, shape_past, shape_here}
 use Rattle.qn_plan.proofs.Reaching.{filter_parts, some_in, pair_next, trace_next}
 
@@ -159,13 +158,13 @@ module _ (law : LegsLeftAreOpen) (net : NetworkValue) (wf : IsWellFormed net) wh
 
           summed_is : labels bonds ≡ filter (λ k. is_on k (shape_at w.shapes i).ends && is_on k (shape_at w.shapes j).ends) w.left
           summed_is =
-              labels_select (shared found.group other.group) s.left
+              labels-select (shared found.group other.group) s.left
               ∙ ap (filter (shared found.group other.group)) (sym left_is)
               ∙ ap₂ (λ (x y : ShapeValue). filter (λ k. is_on k x.ends && is_on k y.ends) w.left) (sym first_is) (sym second_is)
 
           left_after : labels left ≡ filter (λ k. not (is_on k (shape_at w.shapes i).ends && is_on k (shape_at w.shapes j).ends)) w.left
           left_after =
-              labels_select (λ k. not (shared found.group other.group k)) s.left
+              labels-select (λ k. not (shared found.group other.group k)) s.left
               ∙ ap (filter (λ k. not (shared found.group other.group k))) (sym left_is)
               ∙ ap₂ (λ (x y : ShapeValue). filter (λ k. not (is_on k x.ends && is_on k y.ends)) w.left) (sym first_is) (sym second_is)
 
@@ -193,12 +192,12 @@ module _ (law : LegsLeftAreOpen) (net : NetworkValue) (wf : IsWellFormed net) wh
 
           summed_is : labels bonds ≡ filter (λ k. is_couple k (shape_at w.shapes i).ends) w.left
           summed_is =
-              labels_select (coupled found.group) s.left ∙ ap (filter (coupled found.group)) (sym left_is)
+              labels-select (coupled found.group) s.left ∙ ap (filter (coupled found.group)) (sym left_is)
               ∙ ap (λ (x : ShapeValue). filter (λ k. is_couple k x.ends) w.left) (sym first_is)
 
           left_after : labels left ≡ filter (λ k. not (is_couple k (shape_at w.shapes i).ends)) w.left
           left_after =
-              labels_select (λ k. not (coupled found.group k)) s.left ∙ ap (filter (λ k. not (coupled found.group k))) (sym left_is)
+              labels-select (λ k. not (coupled found.group k)) s.left ∙ ap (filter (λ k. not (coupled found.group k))) (sym left_is)
               ∙ ap (λ (x : ShapeValue). filter (λ k. not (is_couple k x.ends)) w.left) (sym first_is)
 
           both : is_couple l (shape_at w.shapes i).ends ≡ true
@@ -233,8 +232,3 @@ module _ (law : LegsLeftAreOpen) (net : NetworkValue) (wf : IsWellFormed net) wh
         go (g ∷ []) e = absurd (omega (arith, h, groups_many, ap (λ (hs : List TensorGroup). length hs) e))
         go (g ∷ k ∷ gs) e =
             pair_next law net wf [] [] list w r [] g [] k gs [] z.left (ap (all_products par z.left) e) 0 1 [] w.left refl refl refl (sym (ap (λ (v : WalkValue). v.left) r.walk)) (omega arith)
-
-        go : (gs : List TensorGroup) → z.groups ≡ gs → (list ≡ planned net) × (first_wide net ≡ None)
-        go [] e = last (ap (all_products par z.left) e)
-        go (g ∷ []) e = last (ap (all_products par z.left) e)
-        go (g ∷ k ∷ gs) e = absurd (omega (arith, h, groups_many, ap (λ (hs : List TensorGroup). length hs) e))

@@ -25,6 +25,7 @@ use Rattle.qn_net.proofs.CoupledNodes.{open_legs_are}
 use Rattle.qn_net.proofs.StepTensors.{two_coupling, two_coupled}
 use Rattle.qn_plan.specs.Shapes.{place_of, shared_places, ends_left}
 use Rattle.qn_plan.proofs.Keeping.{kept_two}
+use Rattle.qn_facts.proofs.Lists.{unmapped}
 
 abbrev names : List End → List ℤ
 names es = map (λ (e : End). e.label) es
@@ -93,10 +94,6 @@ lines_plain sectors [] = tt
 lines_plain sectors (b ∷ bs) = (refl, refl, lines_plain sectors bs)
 
 -- shared places
-
-unmapped : {A B : Type 0} (P : B → Type 0) (f : A → B) (xs : List A) → All P (map f xs) → All (λ x. P (f x)) xs
-unmapped P f [] h = all-nil (λ x. P (f x))
-unmapped P f (x ∷ xs) h = all-cons (λ y. P (f y)) x xs (all_first P (f x) (map f xs) h) (unmapped P f xs (all_others P (f x) (map f xs) h))
 
 abbrev behind : ℕ → ℕ × ℕ → ℕ × ℕ
 behind n p = (p.0, n + p.1)

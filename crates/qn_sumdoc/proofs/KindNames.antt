@@ -13,6 +13,7 @@ use Rattle.qn_sites.specs.Refusals.{IsKindOf}
 use Rattle.qn_sites.proofs.KindFacts.{one_kind}
 use Rattle.qn_opsum.specs.Sums.{no_site}
 use Rattle.qn_sumdoc.specs.Sites.{has_group, named_kind, same_factor}
+use Rattle.qn_doc.proofs.Limits.{failed}
 
 -- ---- equal factors
 
@@ -72,10 +73,6 @@ kind_found name fs k h =
     let m = finds name k kinds h.listed.0 h.listed.1 h.listed.2 h.name in
     let f = found name m.0 kinds m.1 in
     m.1 ∙ ap Some (one_kind m.0 k f.0 h.listed (f.1 ∙ sym h.name))
-
-failed : (b : Bool) → (b ≡ true → ⊥) → b ≡ false
-failed true h = absurd (h refl)
-failed false h = refl
 
 -- the kind has the group
 pub kind_accepted : (name : List ℕ) (fs : List Factor) (k : KindRow) → IsKindOf name fs k → option_map_or (has_group fs) (named_kind name kinds) false ≡ true

@@ -22,6 +22,7 @@ use Rattle.qn_parts.specs.Faults.{fault, fault_if, first_from}
 use Rattle.qn_parts.specs.Sectors.{first_out, is_part_out}
 use Rattle.qn_parts.proofs.Ranges.{part_out, part_in}
 use Rattle.qn_sumdoc.specs.Operators.{has_bad_head, is_off_charge, off_charge_fault, charge_fault}
+use Rattle.qn_doc.proofs.Limits.{failed}
 
 -- ---- a walk over a list, with a property of each member at its place
 
@@ -45,10 +46,6 @@ module _ {A : Type 0} (check : ℕ → A → Option Fault) (P : ℕ → A → Ty
       ∙ ap (λ k. Some (f k)) (omega arith))
 
 -- ---- one entry
-
-failed : (b : Bool) → (b ≡ true → ⊥) → b ≡ false
-failed true h = absurd (h refl)
-failed false h = refl
 
 turned : (b : Bool) → b ≡ false → not b ≡ true
 turned b e = ap not e

@@ -47,9 +47,6 @@ ops_ascend fs es gs s is = subst AreAscending (sym (ap names_of is ∙ names_are
 
 -- ---- what holds of operators as they are given, and of the program's
 
-pub unmapped : {X Y : Type 0} (P : Y → Type 0) (f : X → Y) (xs : List X) → All P (map f xs) → All (λ x. P (f x)) xs
-unmapped P f xs a k d lt = subst P (get_or-map f xs k d (f d) lt) (a k (f d) (subst (λ n. k < n) (sym (length-map xs f)) lt))
-
 -- ---- the loop over the members
 
 -- the operators of the members that come before the rest

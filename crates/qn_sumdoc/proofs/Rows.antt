@@ -19,6 +19,8 @@ use Rattle.qn_parts.specs.Tensors.{entry_or_zero}
 use Rattle.qn_json.specs.Tree.{items}
 use Rattle.qn_json.proofs.Lists.{or_false}
 use Rattle.qn_sumdoc.specs.Operators.{first_other_row, rows_fault, entries_data}
+use Rattle.qn_facts.proofs.Options.{none_head}
+use Rattle.qn_parts.proofs.Accepted.{not_mapped}
 
 -- a walk over two lists, one after the other
 pub walk_both : (check : ℕ → Data → Option Fault) (n : ℕ) (xs ys : List Data) → first_from check n (xs ++ ys) ≡ option_or (first_from check n xs) (first_from check (n + length xs) ys)
@@ -32,14 +34,6 @@ walk_both check n (x ∷ xs) ys =
     joined None b c = refl
     joined (Some f) b c = refl
 
-passed : {A : Type 0} (b : Bool) (x : A) (r : Option A) → cond b (Some x) r ≡ None → (b ≡ false) × (r ≡ None)
-passed true x r e = cc
-passed false x r e = (refl, e)
-
-not_mapped : {A B : Type 0} (f : A → B) (o : Option A) → option_map f o ≡ None → o ≡ None
-not_mapped f None e = refl
-not_mapped f (Some x) e = cc
-
 told : (b : Bool) → not b ≡ false → b ≡ true
 told true e = refl
 told false e = cc
@@ -47,13 +41,13 @@ told false e = cc
 -- rows without a fault have dim entries each, and as many as are left are there
 count_from : (dim left k : ℕ) (rows : List Data) → k + left ≡ dim + 1 → first_other_row dim k rows ≡ None → length (entries_data rows) ≡ left * dim
 count_from dim zero k [] at e = omega arith
-count_from dim (suc left) k [] at e = let past = leb-false k dim (passed (nat_le k dim) k None e).0 in absurd (omega (arith, at, past))
+count_from dim (suc left) k [] at e = let past = leb-false k dim (none_head (nat_le k dim) k None e).0 in absurd (omega (arith, at, past))
 count_from dim zero k (r ∷ rs) at e =
-    let here = passed (nat_lt dim k || not (length (items r) == dim)) k (first_other_row dim (k + 1) rs) e in
+    let here = none_head (nat_lt dim k || not (length (items r) == dim)) k (first_other_row dim (k + 1) rs) e in
     let inside = ltb-false dim k (or_false (nat_lt dim k) (not (length (items r) == dim)) here.0).0 in
     absurd (omega (arith, at, inside))
 count_from dim (suc left) k (r ∷ rs) at e =
-    let here = passed (nat_lt dim k || not (length (items r) == dim)) k (first_other_row dim (k + 1) rs) e in
+    let here = none_head (nat_lt dim k || not (length (items r) == dim)) k (first_other_row dim (k + 1) rs) e in
     let parts = or_false (nat_lt dim k) (not (length (items r) == dim)) here.0 in
     let width : length (items r) ≡ dim = (unsigned_Decides (length (items r)) dim).0 (told (length (items r) == dim) parts.1) in
     let rest : length (entries_data rs) ≡ left * dim = count_from dim left (k + 1) rs (omega (arith, at)) here.1 in
@@ -73,7 +67,7 @@ rows_next (x ∷ later) v h is =
     let whole : take (length (x ∷ later) - 1) later ≡ later = ap (λ n. take n later) (omega arith) ∙ take-length later in
     ap (λ y. items (view y) ++ entries_data (map view later)) (sym is) ∙ ap (λ l. items (view v) ++ entries_data (map view l)) (sym whole)
 
--- a row without a fault is passed
+-- a row without a fault is none_head
 pub row_passed : (check : ℕ → Data → Option Fault) (made new : List Gaussian) (row rows whole : List Data) (w : Option Fault) → new ≡ made ++ map entry_or_zero row → whole ≡ row ++ rows
     → first_from check (length made + 1) row ≡ None → first_from check (length made + 1) whole ≡ w → first_from check (length new + 1) rows ≡ w
 row_passed check made new row rows whole w more is none walk =

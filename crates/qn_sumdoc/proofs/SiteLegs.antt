@@ -13,10 +13,7 @@ use Rattle.qn_parts.specs.Faults.{fault, fault_if, first_bad}
 use Rattle.qn_parts.specs.Sectors.{has_charge_out, is_dim_out, dim_of, dims_fault, sectors_fault, sector_of}
 use Rattle.qn_json.proofs.Lists.{parts_none, or_false}
 use Rattle.qn_parts.proofs.Accepted.{leg_accepted}
-
-passed : {A : Type 0} (b : Bool) (x : A) (r : Option A) → cond b (Some x) r ≡ None → (b ≡ false) × (r ≡ None)
-passed true x r e = cc
-passed false x r e = (refl, e)
+use Rattle.qn_facts.proofs.Options.{none_head}
 
 fits : (most t : ℕ) (z : ℤ) → is_dim_out most t z ≡ false → t + unsigned_abs z ≤ most
 fits most t z e = ltb-false most (t + unsigned_abs z) (or_false (int_lt z (pos 1) || int_lt (pos 65536) z) (nat_lt most (t + unsigned_abs z)) e).1
@@ -29,14 +26,14 @@ wider_dim most more t z le e =
 wider_dims : (most more : ℕ) (at : ℕ → Fault) (t k : ℕ) (ds : List Data) → most ≤ more → dims_fault most at t k ds ≡ None → dims_fault more at t k ds ≡ None
 wider_dims most more at t k [] le e = refl
 wider_dims most more at t k (d ∷ ds) le e =
-    let here = passed (is_dim_out most t (dim_of d)) (at k) (dims_fault most at (t + unsigned_abs (dim_of d)) (k + 1) ds) e in
+    let here = none_head (is_dim_out most t (dim_of d)) (at k) (dims_fault most at (t + unsigned_abs (dim_of d)) (k + 1) ds) e in
     ap (λ b. cond b (Some (at k)) (dims_fault more at (t + unsigned_abs (dim_of d)) (k + 1) ds)) (wider_dim most more t (dim_of d) le here.0)
     ∙ wider_dims most more at (t + unsigned_abs (dim_of d)) (k + 1) ds le here.1
 
 total_fits : (fs : List Factor) (most : ℕ) (at : ℕ → Fault) (t k : ℕ) (ds : List Data) → t ≤ most → dims_fault most at t k ds ≡ None → t + total (map (sector_of fs) ds) ≤ most
 total_fits fs most at t k [] le e = omega (arith, le)
 total_fits fs most at t k (d ∷ ds) le e =
-    let here = passed (is_dim_out most t (dim_of d)) (at k) (dims_fault most at (t + unsigned_abs (dim_of d)) (k + 1) ds) e in
+    let here = none_head (is_dim_out most t (dim_of d)) (at k) (dims_fault most at (t + unsigned_abs (dim_of d)) (k + 1) ds) e in
     omega (arith, total_fits fs most at (t + unsigned_abs (dim_of d)) (k + 1) ds (fits most t (dim_of d) here.0) here.1)
 
 -- what the walk over sectors leaves out

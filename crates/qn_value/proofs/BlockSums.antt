@@ -89,7 +89,7 @@ when-swap true false x = refl
 when-swap false true x = refl
 when-swap false false x = refl
 
-sum_below-when : (b : Bool) (n : ℕ) (f : ℕ → Gaussian) → sum_below n (λ v. when b (f v)) ≡ when b (sum_below n f)
+pub sum_below-when : (b : Bool) (n : ℕ) (f : ℕ → Gaussian) → sum_below n (λ v. when b (f v)) ≡ when b (sum_below n f)
 sum_below-when true n f = refl
 sum_below-when false n f = sum_below-zero n
 

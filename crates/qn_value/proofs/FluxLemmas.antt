@@ -20,7 +20,7 @@ use Rattle.qn_value.proofs.Sums.{label_test, Meets, DependsOn, steady_from, sums
 use Rattle.qn_sign.proofs.Parity.{is_odd-count}
 use Rattle.qn_value.proofs.NetLaws.{end_test, signed-zero, ends-labels, at_values-values}
 
-xor_same : (a b : Bool) → Charges.xor a b ≡ xor a b
+pub xor_same : (a b : Bool) → Charges.xor a b ≡ xor a b
 xor_same true b = refl
 xor_same false b = refl
 

@@ -26,7 +26,7 @@ pub all_others : {A : Type 0} (P : A → Type 0) (x : A) (xs : List A) → All P
 all_others P x xs h k d l = h (suc k) d (omega arith)
 
 -- the entry is 0, or the values are those of a row
-rows_flux : (fs : List Factor) (ls : List LegValue) (q : List ℤ) (rows : List Row) → All (IsRow fs ls q) rows → (xs : List ℕ) →
+pub rows_flux : (fs : List Factor) (ls : List LegValue) (q : List ℤ) (rows : List Row) → All (IsRow fs ls q) rows → (xs : List ℕ) →
     (net fs ls (sectors_at ls xs) ≡ q) ⊎ (entry_at rows xs ≡ zero_g)
 rows_flux fs ls q [] h xs = inr refl
 rows_flux fs ls q (r ∷ rs) h xs = go (same_values r.values xs) refl (rows_flux fs ls q rs (all_others (IsRow fs ls q) r rs h) xs)

@@ -2,8 +2,9 @@ use Rattle.std.proofs.Common.{◌≡◌, ◌++◌, ◌+◌, drop, get_or, true, 
 use Rattle.std.specs.Prelude.{decimal}
 use Rattle.serde_json.specs.Written.{comma_if}
 use Rattle.qn_cli.specs.Lines.{numbers_after, AppendsFront}
-use Rattle.qn_cli.proofs.Pieces.{next_number, appends_both, front_first, front_later, on_err}
+use Rattle.qn_cli.proofs.Pieces.{next_number, appends_both, front_first, front_later}
 use Rattle.qn_cli.proofs.tell.write_numbers.Goals as goal
+use Rattle.qn_facts.proofs.Results.{on_err}
 
 pub returns-in_err-write_number-clause-part : goal.returns-in_err-write_number-clause-part
 returns-in_err-write_number-clause-part g c =

@@ -1,8 +1,9 @@
 use Rattle.std.proofs.Common.{◌++◌, false}
 use Rattle.std.specs.Prelude.{codes, decimal}
 use Rattle.qn_cli.specs.Lines.{numbers_after, passed_line, AppendsFront}
-use Rattle.qn_cli.proofs.Pieces.{front_first, front_later, on_err, on_err_with}
+use Rattle.qn_cli.proofs.Pieces.{front_first, front_later, on_err_with}
 use Rattle.qn_cli.proofs.tell.write_passed.Goals as goal
+use Rattle.qn_facts.proofs.Results.{on_err}
 
 pub returns-in_err-write_step-clause-part : goal.returns-in_err-write_step-clause-part
 returns-in_err-write_step-clause-part g c =

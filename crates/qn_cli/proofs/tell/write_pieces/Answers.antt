@@ -1,7 +1,8 @@
 use Rattle.std.proofs.Common.{◌≡◌, ◌++◌, ◌+◌, drop, get_or, sym, ap, ◌∙◌, arith, append_assoc}
 use Rattle.qn_cli.specs.Lines.{joined, AppendsFront}
-use Rattle.qn_cli.proofs.Pieces.{no_piece, next_piece, appends_both, front_first, front_later, on_err}
+use Rattle.qn_cli.proofs.Pieces.{no_piece, next_piece, appends_both, front_first, front_later}
 use Rattle.qn_cli.proofs.tell.write_pieces.Goals as goal
+use Rattle.qn_facts.proofs.Results.{on_err}
 
 pub returns-in_err-write_all-clause-part : goal.returns-in_err-write_all-clause-part
 returns-in_err-write_all-clause-part g c =

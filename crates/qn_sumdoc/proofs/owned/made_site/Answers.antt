@@ -4,8 +4,8 @@ use Rattle.std.proofs.lemmas.Simd.{map-map}
 use Rattle.qn_index.specs.Legs.{total}
 use Rattle.qn_sites.specs.Sites.{AreAscending, GivenOp, SiteValue, site_with}
 use Rattle.qn_sumdoc.specs.Sites.{own_site}
-use Rattle.qn_sumdoc.proofs.OwnSites.{unmapped}
 use Rattle.qn_sumdoc.proofs.owned.made_site.Goals as goal
+use Rattle.qn_facts.proofs.Lists.{unmapped}
 
 pub own-requires : goal.own-requires
 own-requires g c =
