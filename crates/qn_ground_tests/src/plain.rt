@@ -5,7 +5,6 @@ use qn_value::plain::{
     EvaluationFault, LineEnd, LineParities, PlainRow, PlainTensor, SummedLine, evaluate,
 };
 use std::alloc::{AllocError, Global};
-use std::test::Fail;
 
 const IN: LineEnd = LineEnd {
     label: 1,
@@ -35,33 +34,26 @@ const LONG: SummedLine = SummedLine {
     twisted: false,
 };
 
-// A tensor: what its legs are, the entries at equal values of all legs, and whether it is odd.
-type Row<'a> = (&'a [LineEnd], &'a [i128], bool);
-
-// The tensor of a row.
-fn tensor(alloc: Global, row: Row) -> Result<PlainTensor, AllocError> {
+// A tensor whose legs are these ends, with these entries at equal values of all legs.
+fn tensor(
+    alloc: Global,
+    ends: &[LineEnd],
+    entries: &[i128],
+    odd: bool,
+) -> Result<PlainTensor, AllocError> {
     let mut rows = Vec::new(alloc);
     let mut value = 0u32;
-    for entry in row.1 {
-        let values = vec![in alloc; value; row.0.len()]?;
+    for entry in entries {
+        let values = vec![in alloc; value; ends.len()]?;
         let entry = Gauss::new(*entry, 0).unwrap_or(Gauss::ZERO);
         rows.push(PlainRow { values, entry })?;
         value = value.wrapping_add(1);
     }
     Ok(PlainTensor {
-        ends: Vec::from_slice(alloc, row.0)?,
+        ends: Vec::from_slice(alloc, ends)?,
         rows,
-        odd: row.2,
+        odd,
     })
-}
-
-// The tensors of rows.
-fn tensors_of(alloc: Global, rows: &[Row]) -> Result<Vec<PlainTensor>, AllocError> {
-    let mut tensors = Vec::new(alloc);
-    for row in rows {
-        tensors.push(tensor(alloc, *row)?)?;
-    }
-    Ok(tensors)
 }
 
 // Line 1, with an even and an odd value.
@@ -72,77 +64,53 @@ fn lines(alloc: Global) -> Result<Vec<LineParities>, AllocError> {
     Ok(lines)
 }
 
-// The value of tensors on line 1.
-fn value(
+// The matrix with the diagonal 2, 3, whose two legs are the ends of one line.
+fn trace(
     alloc: Global,
-    rows: &[Row],
-    bonds: &[SummedLine],
-    opens: &[LineEnd],
-    values: &[u32],
+    first: LineEnd,
+    second: LineEnd,
+    line: SummedLine,
 ) -> Result<i128, EvaluationFault> {
-    let lines = lines(alloc)?;
-    let tensors = tensors_of(alloc, rows)?;
-    evaluate(alloc, &lines, &tensors, bonds, opens, values).map(|z| z.re())
+    let tensors = [tensor(alloc, &[first, second], &[2, 3], false)?];
+    evaluate(alloc, &lines(alloc)?, &tensors, &[line], &[], &[]).map(|z| z.re())
 }
 
-// Tensors, the bonds, the open ends with their values, and what the value is.
-type Case<'a> = (
-    &'a [Row<'a>],
-    &'a [SummedLine],
-    &'a [LineEnd],
-    &'a [u32],
-    Result<i128, EvaluationFault>,
-);
+// Two odd tensors with one leg each, the ends of one line, and their entries at its odd value.
+fn pair(
+    alloc: Global,
+    first: (LineEnd, i128),
+    second: (LineEnd, i128),
+) -> Result<i128, EvaluationFault> {
+    let tensors = [
+        tensor(alloc, &[first.0], &[0, first.1], true)?,
+        tensor(alloc, &[second.0], &[0, second.1], true)?,
+    ];
+    evaluate(alloc, &lines(alloc)?, &tensors, &[LINE], &[], &[]).map(|z| z.re())
+}
+
+// A vector with the one entry 4, at a value of its open leg.
+fn open(alloc: Global, value: u32) -> Result<i128, EvaluationFault> {
+    let tensors = [tensor(alloc, &[OUT], &[4], false)?];
+    evaluate(alloc, &lines(alloc)?, &tensors, &[], &[OUT], &[value]).map(|z| z.re())
+}
+
+// Three lines and no tensor: 2^65 - 2^34 + 2 summands.
+fn long(alloc: Global) -> Result<i128, EvaluationFault> {
+    evaluate(alloc, &lines(alloc)?, &[], &[LONG, LONG, LINE], &[], &[]).map(|z| z.re())
+}
 
 #[test]
-fn values_of_networks(rt: HostRuntime) -> Result<(), Fail> {
-    let cases: &[Case] = &[
-        // The trace, and the supertrace where the Out leg stands first or the line is twisted.
-        (&[(&[IN, OUT], &[2, 3], false)], &[LINE], &[], &[], Ok(5)),
-        (&[(&[OUT, IN], &[2, 3], false)], &[LINE], &[], &[], Ok(-1)),
-        (
-            &[(&[IN, OUT], &[2, 3], false)],
-            &[TWISTED],
-            &[],
-            &[],
-            Ok(-1),
-        ),
-        // Two odd tensors that share a line: the sign depends on their order.
-        (
-            &[(&[OUT], &[0, 2], true), (&[IN], &[0, 3], true)],
-            &[LINE],
-            &[],
-            &[],
-            Ok(-6),
-        ),
-        (
-            &[(&[IN], &[0, 3], true), (&[OUT], &[0, 2], true)],
-            &[LINE],
-            &[],
-            &[],
-            Ok(6),
-        ),
-        // An open end at a value that has an entry, and at one that has none.
-        (&[(&[OUT], &[4], false)], &[], &[OUT], &[0], Ok(4)),
-        (&[(&[OUT], &[4], false)], &[], &[OUT], &[1], Ok(0)),
-        // Too many summands, and too large ones.
-        (
-            &[],
-            &[LONG, LONG, LINE],
-            &[],
-            &[],
-            Err(EvaluationFault::TooManySummands),
-        ),
-        (
-            &[(&[OUT], &[i128::MAX], false), (&[IN], &[2], false)],
-            &[LINE],
-            &[],
-            &[],
-            Err(EvaluationFault::TooLarge),
-        ),
-    ];
-    for (rows, bonds, opens, values, want) in cases {
-        assert!(rt; value(rt.alloc(), rows, bonds, opens, values) == *want);
-    }
-    Ok(())
+fn values_of_networks(rt: HostRuntime) {
+    let alloc = rt.alloc();
+    // The trace, and the supertrace where the Out leg stands first or the line is twisted.
+    assert!(rt; trace(alloc, IN, OUT, LINE) == Ok(5));
+    assert!(rt; trace(alloc, OUT, IN, LINE) == Ok(-1));
+    assert!(rt; trace(alloc, IN, OUT, TWISTED) == Ok(-1));
+    // Two odd tensors that share a line: the sign depends on their order.
+    assert!(rt; pair(alloc, (OUT, 2), (IN, 3)) == Ok(-6));
+    assert!(rt; pair(alloc, (IN, 3), (OUT, 2)) == Ok(6));
+    assert!(rt; pair(alloc, (OUT, i128::MAX), (IN, 2)) == Err(EvaluationFault::TooLarge));
+    assert!(rt; open(alloc, 0) == Ok(4));
+    assert!(rt; open(alloc, 1) == Ok(0));
+    assert!(rt; long(alloc) == Err(EvaluationFault::TooManySummands));
 }

@@ -67,6 +67,31 @@ pub fn tensor_of<const K: usize>(
     }
 }
 
+/// Whether these are the blocks of rows, in their order.
+pub fn are_blocks(blocks: &[Block], rows: &[BlockRow]) -> bool {
+    if blocks.len() != rows.len() {
+        return false;
+    }
+    for (block, row) in blocks.iter().zip(rows.iter()) {
+        if block.tuple() != row.0 || !are_entries(block.entries(), row.1) {
+            return false;
+        }
+    }
+    true
+}
+
+fn are_entries(entries: &[Gauss], parts: &[i128]) -> bool {
+    if entries.len() != parts.len() {
+        return false;
+    }
+    for (entry, part) in entries.iter().zip(parts.iter()) {
+        if entry.re() != *part || entry.im() != 0 {
+            return false;
+        }
+    }
+    true
+}
+
 /// The combiner of the legs of rows.
 pub fn combiner_of<const K: usize>(
     alloc: Global,
