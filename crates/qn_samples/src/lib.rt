@@ -8,4 +8,6 @@ mod tensors;
 
 pub use fault::SampleFault;
 pub use legs::{BOSON, FERMION, LegRow, PARITY, Sectors, charge_of, flux_of, leg_of, legs_of};
-pub use tensors::{BlockRow, TensorRow, are_blocks, blocks_of, combiner_of, entries_of, number, tensor_of};
+pub use tensors::{
+    BlockRow, TensorRow, are_blocks, blocks_of, combiner_of, entries_of, number, tensor_of,
+};
