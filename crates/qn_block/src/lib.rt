@@ -7,8 +7,6 @@
 mod charges;
 mod checks;
 mod combiner;
-#[cfg(test)]
-mod combiner_tests;
 mod conjugate;
 mod copies;
 mod entry;
@@ -20,8 +18,6 @@ mod starts;
 mod step;
 mod table;
 mod tensor;
-#[cfg(test)]
-mod tests;
 mod values;
 
 pub use combiner::Combiner;

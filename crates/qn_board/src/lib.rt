@@ -10,8 +10,6 @@ mod laws;
 mod machine;
 mod rule;
 mod seat;
-#[cfg(test)]
-mod tests;
 
 pub use board::{Board, Outcome, Seat};
 pub use event::{Event, MachineFault, Reply, RunFault};

@@ -9,8 +9,6 @@ mod factor;
 mod fault;
 mod group;
 mod laws;
-#[cfg(test)]
-mod tests;
 
 pub use abelian::Abelian;
 pub use charge::Charge;

@@ -10,8 +10,6 @@ mod networks;
 mod operators;
 mod status;
 mod tell;
-#[cfg(test)]
-mod tests;
 
 pub use command::run;
 pub use qn_pair::{Gate, OpenGate};

@@ -15,6 +15,3 @@ pub use qn_parts::{
     read_tree, whole_at, write_tensor,
 };
 pub use writing::write_network;
-
-#[cfg(test)]
-mod tests;

@@ -8,8 +8,6 @@ mod known;
 mod labels;
 mod part;
 mod steps;
-#[cfg(test)]
-mod tests;
 
 pub use evaluation::{carry, evaluate, evaluate_planned, finished, start};
 pub use fault::EngineFault;

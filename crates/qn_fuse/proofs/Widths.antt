@@ -137,10 +137,6 @@ entries_by fs (l ∷ ls) B q g k =
         (λ t. sym (mul_assoc d (block_size ls t) (entries fs B (remaining fs (net fs ls t) p))) ∙ ap (λ z. d * block_size ls t * entries fs B z) (left_both fs (signed fs l s) (net fs ls t) q g))
         ∙ sym (sum-map whole (λ t. s ∷ t) (tuples ls))
 
--- a charge counts once among ascending ones
-less_tied : Less ≡ Equal → ⊥
-less_tied e = cc
-
 part_once : (x : List ℤ) (n : ℕ) (cs : List (List ℤ)) → Ascends cs → sum_over (λ c. cond (pointwise int_eq x c) n 0) cs ≤ n
 part_once x n [] a = omega arith
 part_once x n (c ∷ cs) a = by (pointwise int_eq x c) refl (part_once x n cs a.1)

@@ -8,8 +8,6 @@ mod lookup;
 mod pieces;
 mod sides;
 mod splitting;
-#[cfg(test)]
-mod tests;
 
 pub use fault::SplitFault;
 pub use fusing::fuse;

@@ -7,8 +7,6 @@ mod decimal;
 mod gauss;
 mod magnitude;
 mod steps;
-#[cfg(test)]
-mod tests;
 
 pub use decimal::{parse_decimal, text, write_decimal};
 pub use gauss::{Gauss, LIMIT};

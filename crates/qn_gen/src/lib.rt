@@ -12,8 +12,6 @@ mod sizes;
 mod state;
 mod sum;
 mod tensor;
-#[cfg(test)]
-mod tests;
 
 use crate::draw::Draws;
 use crate::links::{fermions, legs_of};

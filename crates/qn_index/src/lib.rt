@@ -11,8 +11,6 @@ mod partial;
 mod place;
 mod shape;
 mod table;
-#[cfg(test)]
-mod tests;
 mod tuple;
 
 pub use leg::{

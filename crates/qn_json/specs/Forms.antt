@@ -36,11 +36,6 @@ is_list form d = unwrap_or (option_map (list_all form) (list_at d)) false
 abbrev pub is_empty : Data → Bool
 is_empty d = option_map_or (λ ds. length ds == 0) (list_at d) false
 
-abbrev pub are_one : (Data → Bool) → List Data → Bool
-are_one form [] = false
-are_one form (x ∷ []) = form x
-are_one form (x ∷ y ∷ rest) = false
-
 abbrev pub are_two : (Data → Bool) → (Data → Bool) → List Data → Bool
 are_two first second [] = false
 are_two first second (x ∷ []) = false

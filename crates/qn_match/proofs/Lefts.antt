@@ -45,10 +45,6 @@ left_out {A} ms xs before out i d lt e m h = record {
       ap (λ ys. out ++ ys) (sym step) ∙ h.made;
 }
 
-unmarked_none : {A : Type 0} (ms : List Bool) → unmarked {A = A} ms [] ≡ []
-unmarked_none [] = refl
-unmarked_none (m ∷ ms) = refl
-
 pub all_unmarked : {A : Type 0} (P : A → Type 0) (ms : List Bool) (xs : List A) → All P xs → All P (unmarked ms xs)
 all_unmarked P [] xs h = All-nil P
 all_unmarked P (m ∷ ms) [] h = All-nil P

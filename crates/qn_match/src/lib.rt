@@ -9,8 +9,6 @@ pub mod laws;
 mod marks;
 mod pairing;
 mod task;
-#[cfg(test)]
-mod tests;
 
 pub use counting::cost;
 pub use pairing::{are_paired, is_pair};

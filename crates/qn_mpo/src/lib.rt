@@ -19,8 +19,6 @@ mod sum;
 mod table;
 mod tensor;
 mod term;
-#[cfg(test)]
-mod tests;
 
 pub use chain::{build, skeleton};
 pub use fault::BuildFault;

@@ -10,8 +10,6 @@ mod labels;
 pub mod laws;
 mod network;
 mod standard;
-#[cfg(test)]
-mod tests;
 
 pub use chain::{Chain, ChainKind, Who};
 pub use checks::same_leg;

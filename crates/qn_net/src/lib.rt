@@ -17,8 +17,6 @@ mod order;
 pub mod passing;
 pub mod plans;
 mod table;
-#[cfg(test)]
-mod tests;
 pub mod values;
 
 pub use fault::NetFault;

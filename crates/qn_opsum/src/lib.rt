@@ -9,8 +9,6 @@ pub mod laws;
 mod normal;
 mod sum;
 mod term;
-#[cfg(test)]
-mod tests;
 
 pub use fault::SumFault;
 pub use sum::OpSum;

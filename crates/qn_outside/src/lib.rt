@@ -10,8 +10,6 @@ mod in_memory;
 mod read_whole;
 mod sink_in_memory;
 mod source_in_memory;
-#[cfg(test)]
-mod tests;
 mod traits;
 mod write_whole;
 

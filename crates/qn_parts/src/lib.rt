@@ -17,6 +17,3 @@ pub use fault::{DocFault, Fault};
 pub use qn_json::{flag_at, forms, items, items_at, list, whole_at};
 pub use tree::read_tree;
 pub use writing::write_tensor;
-
-#[cfg(test)]
-mod tests;

@@ -4,7 +4,5 @@
 mod axis;
 mod block;
 mod tensor;
-#[cfg(test)]
-mod tests;
 
 pub use tensor::permute;

@@ -9,8 +9,6 @@ mod planning;
 mod shape;
 mod start;
 mod step;
-#[cfg(test)]
-mod tests;
 mod walk;
 
 pub use ends::is_listed;

@@ -7,8 +7,6 @@
 mod counted;
 mod function;
 mod rule;
-#[cfg(test)]
-mod tests;
 
 pub use counted::CountedRule;
 pub use function::EntryFunction;

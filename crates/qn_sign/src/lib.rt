@@ -6,7 +6,5 @@
 
 pub mod laws;
 mod signs;
-#[cfg(test)]
-mod tests;
 
 pub use signs::{block_move, chord, exchange};

@@ -12,8 +12,6 @@ mod name;
 mod operator;
 mod rules;
 mod site;
-#[cfg(test)]
-mod tests;
 
 pub use checks::op_fault;
 pub use fault::SiteFault;

@@ -12,8 +12,3 @@ mod terms;
 
 pub use states::{AnyStates, States, read_states};
 pub use sums::{AnySum, read_sum};
-
-#[cfg(test)]
-mod state_tests;
-#[cfg(test)]
-mod tests;

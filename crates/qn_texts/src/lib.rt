@@ -6,6 +6,3 @@ mod summary_text;
 
 pub use plan_text::write_plan;
 pub use summary_text::{Summary, write_summary};
-
-#[cfg(test)]
-mod tests;

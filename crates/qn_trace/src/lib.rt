@@ -7,8 +7,6 @@ mod numbers;
 mod sources;
 mod sum;
 mod tensor;
-#[cfg(test)]
-mod tests;
 
 pub use qn_block::StepFault;
 pub use tensor::trace;

@@ -13,6 +13,4 @@ pub mod naming;
 pub mod order;
 pub mod passing;
 pub mod plain;
-#[cfg(test)]
-mod tests;
 pub mod twisting;

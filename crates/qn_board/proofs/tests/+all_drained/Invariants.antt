@@ -1,4 +1,0 @@
-use Rattle.qn_board.proofs.tests.+all_drained.Given as goal
-
-abbrev pub decreases-all_drained : goal.decreases-all_drained
-decreases-all_drained l = l.more

@@ -1,4 +1,0 @@
-use Rattle.qn_cli.proofs.tests.electrons.Given as goal
-
-abbrev pub ghosts-electrons_hold : goal.ghosts-electrons_hold
-ghosts-electrons_hold g a = record { name = a.blank.name; parts = a.blank.parts }

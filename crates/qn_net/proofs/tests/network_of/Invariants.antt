@@ -1,6 +1,0 @@
-use Rattle.std.specs.List.{All}
-use Rattle.qn_net.specs.Members.{IsMemberOf}
-use Rattle.qn_net.proofs.tests.network_of.Given as goal
-
-abbrev pub invariant-loop-row : goal.invariant-loop-row
-invariant-loop-row g l = All (IsMemberOf l.group) l.tensors.items

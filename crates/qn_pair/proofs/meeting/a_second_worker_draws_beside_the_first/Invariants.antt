@@ -1,4 +1,0 @@
-use Rattle.qn_pair.proofs.meeting.a_second_worker_draws_beside_the_first.Given as goal
-
-abbrev pub ghosts-expect_meeting : goal.ghosts-expect_meeting
-ghosts-expect_meeting g a = record { name = a.blank.name; parts = a.blank.parts }
