@@ -20,8 +20,8 @@ use Rattle.qn_net.proofs.CoupledNodes.{open_legs_are}
 use Rattle.qn_net.proofs.StepTensors.{passing_same, tuples_admitted, magnitude_same, node_made, lines_perm, lines_first, lines_second, two_coupling, two_coupled, one_coupling, one_coupled, odd_one, odd_two}
 
 pub lines_law : LinesLaw
-lines_law sectors par s (pair before g between h behind bonds left) h' at = lines_second sectors bonds left (lines_perm sectors at.1 h')
-lines_law sectors par s (trace before g behind bonds left) h at = lines_second sectors bonds left (lines_perm sectors at.1 h)
+lines_law tw sectors par s (pair before g between h behind bonds left) h' at = lines_second tw sectors bonds left (lines_perm tw sectors at.1 h')
+lines_law tw sectors par s (trace before g behind bonds left) h at = lines_second tw sectors bonds left (lines_perm tw sectors at.1 h)
 
 pub pair_step : PairStepLaw
 pair_step fs sectors opens s before g between h behind bonds left p q shared sound at lines hp hq named =

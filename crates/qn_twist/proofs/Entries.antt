@@ -1,13 +1,17 @@
 -- Entries of a twisted tensor.
-use Rattle.std.proofs.Common.{◌≡◌, ◌≢◌, ℕ, zero, suc, Bool, true, false, cond, List, [], ◌∷◌, refl, sym, ◌∙◌, ap, ap₂, subst, map, length, get_or, slice_index_or, arith}
+use Rattle.std.proofs.Common.{◌≡◌, ◌<◌, ℕ, ℤ, zero, suc, Bool, true, false, cond, List, [], ◌∷◌, refl, sym, ◌∙◌, ap, ap₂, subst, map, get_or, slice_index_or}
 use Rattle.std.specs.List.{All}
+use Rattle.std.specs.Cmp.Lexicographic.{slice_cmp}
+use Rattle.std.specs.Ordering.{nat_cmp}
+use Rattle.std.proofs.lemmas.List.{length-map}
+use Rattle.std.proofs.lemmas.List.Elements.{All-map}
 use Rattle.qn_sign.specs.Sign.{xor}
 use Rattle.qn_gauss.specs.Gaussian.{Gaussian, zero_g, signed}
 use Rattle.qn_charge.specs.declared.factor.Factor.{Factor}
 use Rattle.qn_charge.specs.Charges.{parity}
 use Rattle.qn_index.specs.Legs.{LegValue, sector_at, parity_at}
 use Rattle.qn_index.specs.Places.{IsValues, sectors_at, offset_at}
-use Rattle.qn_value.specs.Tensors.{BlockValue, same_values, entry_in, entry_of}
+use Rattle.qn_value.specs.Tensors.{BlockValue, no_block, same_values, entry_in, entry_of, IsBlock, AreAscending}
 use Rattle.qn_value.proofs.NetLaws.{signed-zero}
 use Rattle.qn_value.proofs.Values.{same_values-equal}
 use Rattle.qn_block.specs.Blocked.{BlockedValue, IsBlocked, tensor_of}
@@ -70,3 +74,32 @@ same_entries (x ∷ xs) = ap (λ ys. x ∷ ys) (same_entries xs)
 
 pub block_same : (fs : List Factor) (ls : List LegValue) (places : List ℕ) (b : BlockValue) → odd_sectors fs ls places b.tuple ≡ false → twisted_block fs ls places b ≡ b
 block_same fs ls places b e = λ i. record { tuple = b.tuple; entries = (ap (λ s. map (signed s) b.entries) e ∙ same_entries b.entries) i }
+
+-- what holds of a tensor's blocks holds of the twisted ones
+
+tuple_same : (fs : List Factor) (ls : List LegValue) (places : List ℕ) (bs : List BlockValue) (i : ℕ) → (get_or (map (twisted_block fs ls places) bs) i no_block).tuple ≡ (get_or bs i no_block).tuple
+tuple_same fs ls places [] i = refl
+tuple_same fs ls places (b ∷ bs) zero = refl
+tuple_same fs ls places (b ∷ bs) (suc i) = tuple_same fs ls places bs i
+
+pub still_blocks : (fs : List Factor) (ls : List LegValue) (q : List ℤ) (places : List ℕ) (bs : List BlockValue) → All (IsBlock fs ls q) bs → All (IsBlock fs ls q) (map (twisted_block fs ls places) bs)
+still_blocks fs ls q places bs h =
+    All-map (IsBlock fs ls q) (twisted_block fs ls places) bs
+    (λ k d lt. let b = get_or bs k d in let w = h k d lt in
+    record { tuple = w.tuple; flux = w.flux; full = length-map b.entries (signed (odd_sectors fs ls places b.tuple)) ∙ w.full; small = w.small })
+
+pub still_ascending : (fs : List Factor) (ls : List LegValue) (places : List ℕ) (bs : List BlockValue) → AreAscending bs → AreAscending (map (twisted_block fs ls places) bs)
+still_ascending fs ls places bs h i j below lt =
+    ap₂ (slice_cmp nat_cmp) (tuple_same fs ls places bs i) (tuple_same fs ls places bs j) ∙ h i j below (subst (λ n. j < n) (length-map bs (twisted_block fs ls places)) lt)
+
+pub still_twisted : (t : BlockedValue) (places : List ℕ) (bs : List BlockValue) → IsBlocked t → bs ≡ map (twisted_block t.group t.legs places) t.blocks →
+    IsBlocked (record { group = t.group; legs = t.legs; flux = t.flux; blocks = bs })
+still_twisted t places bs h e = record {
+  group = h.group;
+  sound = h.sound;
+  charges = h.charges;
+  flux = h.flux;
+  shape = h.shape;
+  blocks = subst (All (IsBlock t.group t.legs t.flux)) (sym e) (still_blocks t.group t.legs t.flux places t.blocks h.blocks);
+  ascending = subst AreAscending (sym e) (still_ascending t.group t.legs places t.blocks h.ascending);
+}

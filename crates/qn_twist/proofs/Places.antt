@@ -1,12 +1,12 @@
 -- Places of legs, of odd ones among them, and of elements that are changed one after another.
-use Rattle.std.proofs.Common.{◌≡◌, ◌<◌, ◌-◌, ℕ, zero, suc, ◌+◌, List, [], ◌∷◌, ◌++◌, Bool, refl, sym, ◌∙◌, ap, subst, map, length, get_or, take, drop, arith}
-use Rattle.std.specs.List.{All}
+use Rattle.std.proofs.Common.{◌≡◌, ◌<◌, ℕ, zero, suc, List, [], ◌∷◌, ◌++◌, refl, sym, ◌∙◌, ap, subst, map, length, get_or, take, drop, arith}
 use Rattle.qn_sign.specs.Sign.{xor}
 use Rattle.qn_charge.specs.declared.factor.Factor.{Factor}
 use Rattle.qn_charge.specs.Charges.{parity}
 use Rattle.qn_index.specs.Legs.{LegValue, sector_at}
 use Rattle.qn_index.specs.Tuples.{IsTuple}
 use Rattle.qn_index.proofs.Nets.{tuple_length, tuple_at}
+use Rattle.qn_value.specs.Local.{no_leg}
 use Rattle.qn_twist.specs.Twisted.{leg_at, odd_sectors}
 
 -- in a list whose first i elements are changed the next one is as before
@@ -27,13 +27,13 @@ at ls t k l h lt is =
     record {
       within = omega (arith, n, lt);
       sector = subst (λ (g : LegValue). get_or t k 0 < length g.sectors) (sym is) (tuple_at ls t k l h lt);
-      leg = is ∙ same ls k lt;
+      leg = is ∙ same l no_leg ls k lt;
     }
   where
-    same : {A : Type 0} {d e : A} (xs : List A) (k : ℕ) → k < length xs → get_or xs k d ≡ get_or xs k e
-    same [] k lt = absurd (omega (arith, lt))
-    same (x ∷ xs) zero lt = refl
-    same (x ∷ xs) (suc k) lt = same xs k (omega (arith, lt))
+    same : {A : Type 0} (d e : A) (xs : List A) (k : ℕ) → k < length xs → get_or xs k d ≡ get_or xs k e
+    same d e [] k lt = absurd (omega (arith, lt))
+    same d e (x ∷ xs) zero lt = refl
+    same d e (x ∷ xs) (suc k) lt = same d e xs k (omega (arith, lt))
 
 -- one place more, from the last
 pub odd_more : (fs : List Factor) (ls : List LegValue) (t ks : List ℕ) (i k : ℕ) → i < length ks → k ≡ get_or ks i 0 →
