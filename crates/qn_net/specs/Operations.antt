@@ -93,41 +93,28 @@ LinesLaw =
     (twists : List ℤ) (sectors : ℤ → List SectorValue) (par : Parities) (s : State) (t : Step) →
     AreTwistedLines twists sectors s.left → IsStepAt s t → AreTwistedLines twists sectors (carry par (t ∷ []) s).left
 
--- a pair step, one of whose tensors is twisted before it: the pairs of legs are coupled; the two tensors contracted, with the labels left, are the tensor of the
--- result, which has these legs; and the first passing place of the contraction is that of the step
-abbrev pub PairStepLaw : Type 0
-PairStepLaw =
-    (fs : List Factor) (sectors : ℤ → List SectorValue) (opens : List End) (s : State)
-    (before : List TensorGroup) (g : TensorGroup) (between : List TensorGroup) (h : TensorGroup) (behind : List TensorGroup) (bonds left : List Bond)
-    (twists : List ℤ) (earlier : Bool) (p q : Placed) (shared : List (ℕ × ℕ)) →
+-- what is made of two tensors whose pairs of legs are the ends of these lines: the pairs are coupled; the two contracted, with the labels left, are the tensor of the
+-- step's result, which has these legs; and the first passing place of the contraction is that of the step
+abbrev pub IsPairMade : List Factor → (ℤ → List SectorValue) → Step → List Bond → Bool → Placed → Placed → List (ℕ × ℕ) → Type 0
+IsPairMade fs sectors t bonds between p q shared =
     let par : Parities = parities_on fs sectors in
-    let t : Step = pair before g between h behind bonds left in
     let a : TensorValue = p.tensor in
     let b : TensorValue = q.tensor in
     let legs : List LegValue = open_legs (a ∷ b ∷ []) (shared_couples a shared) in
-    IsSoundState par opens s → IsStepAt s t → AreTwistedLines twists sectors s.left →
-    IsTensorOf fs sectors p (twisted_where earlier par bonds g) → IsTensorOf fs sectors q (twisted_where (not earlier) par bonds h) →
-    ArePairsOf p.labels q.labels bonds shared →
     IsCoupling (flat_map (λ x. x.legs) (a ∷ b ∷ [])) (shared_couples a shared)
-    × ((r : TensorValue) → IsTensor r → Pairwise a b shared (odd_flux (nodes between)) r →
+    × ((r : TensorValue) → IsTensor r → Pairwise a b shared between r →
     IsTensorOf fs sectors (record { tensor = r; labels = labels_left (p.labels ++ q.labels) bonds }) (result par t))
     × (legs ≡ result_legs par sectors t)
     × (sum_charge fs a.flux b.flux ≡ flux_of fs (result par t))
     × (first_passing (pair_magnitude a b shared) legs (admitted fs legs (sum_charge fs a.flux b.flux)) ≡
     first_passing (result_magnitude par made t) (result_legs par sectors t) (admitted fs (result_legs par sectors t) (flux_of fs (result par t))))
 
--- a trace step, whose tensor is twisted before it: likewise for the couples of legs of one tensor
-abbrev pub TraceStepLaw : Type 0
-TraceStepLaw =
-    (fs : List Factor) (sectors : ℤ → List SectorValue) (opens : List End) (s : State)
-    (before : List TensorGroup) (g : TensorGroup) (behind : List TensorGroup) (bonds left : List Bond)
-    (twists : List ℤ) (p : Placed) (couples : List (ℕ × ℕ)) →
+-- likewise of one tensor whose couples of legs are the ends of these lines
+abbrev pub IsTraceMade : List Factor → (ℤ → List SectorValue) → Step → List Bond → Placed → List (ℕ × ℕ) → Type 0
+IsTraceMade fs sectors t bonds p couples =
     let par : Parities = parities_on fs sectors in
-    let t : Step = trace before g behind bonds left in
     let a : TensorValue = p.tensor in
     let legs : List LegValue = open_legs (a ∷ []) couples in
-    IsSoundState par opens s → IsStepAt s t → AreTwistedLines twists sectors s.left → IsTensorOf fs sectors p (twisted_inward par bonds g) →
-    AreCouplesOf p.labels bonds couples →
     IsCoupling a.legs couples
     × ((r : TensorValue) → IsTensor r → Traced a couples r →
     IsTensorOf fs sectors (record { tensor = r; labels = labels_left p.labels bonds }) (result par t))
@@ -135,6 +122,29 @@ TraceStepLaw =
     × (a.flux ≡ flux_of fs (result par t))
     × (first_passing (trace_magnitude a couples) legs (admitted fs legs a.flux) ≡
     first_passing (result_magnitude par made t) (result_legs par sectors t) (admitted fs (result_legs par sectors t) (flux_of fs (result par t))))
+
+-- a pair step, before which the earlier or the later tensor is twisted
+abbrev pub PairStepLaw : Type 0
+PairStepLaw =
+    (fs : List Factor) (sectors : ℤ → List SectorValue) (opens : List End) (s : State)
+    (before : List TensorGroup) (g : TensorGroup) (between : List TensorGroup) (h : TensorGroup) (behind : List TensorGroup) (bonds left : List Bond)
+    (twists : List ℤ) (earlier : Bool) (p q : Placed) (shared : List (ℕ × ℕ)) →
+    let par : Parities = parities_on fs sectors in
+    let t : Step = pair before g between h behind bonds left in
+    IsSoundState par opens s → IsStepAt s t → AreTwistedLines twists sectors s.left →
+    IsTensorOf fs sectors p (twisted_where earlier par bonds g) → IsTensorOf fs sectors q (twisted_where (not earlier) par bonds h) →
+    ArePairsOf p.labels q.labels bonds shared → IsPairMade fs sectors t bonds (odd_flux (nodes between)) p q shared
+
+-- a trace step, before which the tensor is twisted
+abbrev pub TraceStepLaw : Type 0
+TraceStepLaw =
+    (fs : List Factor) (sectors : ℤ → List SectorValue) (opens : List End) (s : State)
+    (before : List TensorGroup) (g : TensorGroup) (behind : List TensorGroup) (bonds left : List Bond)
+    (twists : List ℤ) (p : Placed) (couples : List (ℕ × ℕ)) →
+    let par : Parities = parities_on fs sectors in
+    let t : Step = trace before g behind bonds left in
+    IsSoundState par opens s → IsStepAt s t → AreTwistedLines twists sectors s.left → IsTensorOf fs sectors p (twisted_inward par bonds g) →
+    AreCouplesOf p.labels bonds couples → IsTraceMade fs sectors t bonds p couples
 
 -- the last tensor with its legs in the order of the open labels has the value of the network, the legs of the open lines, and the flux of all members
 abbrev pub LastTensorLaw : Type 0

@@ -19,6 +19,7 @@ pub mod plans;
 mod table;
 #[cfg(test)]
 mod tests;
+mod twist;
 pub mod values;
 
 pub use fault::NetFault;
