@@ -10,6 +10,7 @@ mod part;
 mod steps;
 #[cfg(test)]
 mod tests;
+mod twisting;
 
 pub use evaluation::{carry, evaluate, evaluate_planned, finished, start};
 pub use fault::EngineFault;

@@ -8,7 +8,7 @@ use Rattle.qn_value.specs.Networks.{End}
 use Rattle.qn_value.specs.Labels.{slots_of, ends}
 use Rattle.qn_net.specs.Members.{LabelledMember, member_tensor, slots_of_members, ends_of_members}
 use Rattle.qn_net.specs.declared.fault.NetFault.{NetFault}
-use Rattle.qn_net.specs.declared.fault.NetFault.TheVariants.{LabelArity, LabelRange, LabelCount, Arrow, Sectors, OpenLabels, Order, Memory}
+use Rattle.qn_net.specs.declared.fault.NetFault.TheVariants.{LabelArity, LabelRange, LabelCount, Arrow, Sectors, OpenLabels, Order, Twist, Memory}
 use Rattle.qn_net.specs.Refusals.{IsLabel, BadLabelAt, HaveLabels, AreLabelled, IsChoiceFault, IsNetFault}
 use Rattle.qn_net.specs.Tables.{HasLabel}
 use Rattle.std.proofs.lemmas.List.{map-append}
@@ -86,6 +86,5 @@ choice_fault ms None twist (Sectors k) l h = absurd h
 choice_fault ms (Some order) twist (Sectors k) l h = absurd h
 choice_fault ms None twist (OpenLabels k) l h = absurd h
 choice_fault ms (Some order) twist (OpenLabels k) l h = absurd h
-
 choice_fault ms None twist (Twist place) l h = absurd h
 choice_fault ms (Some order) twist (Twist place) l h = absurd h

@@ -204,9 +204,9 @@ impl<const K: usize> Network<K> {
         requires some { 0 < length tensors.items }
         requires few { length tensors.items ≤ 256 }
         requires members { All (IsMemberOf group) tensors.items }
-        ensures ok { IfOk result (λ n. n ≡ network_of group.entry tensors.entry.items (given order) twist.entry.items) }
-        ensures faultless { OnOk result (IsFaultless tensors.entry.items (given order) twist.entry.items) }
-        ensures err { IfErr result (IsNetFault tensors.entry.items (given order) twist.entry.items) }
+        ensures ok { IfOk result (λ n. n ≡ network_of group.entry tensors.entry.items (given order) twist.items) }
+        ensures faultless { OnOk result (IsFaultless tensors.entry.items (given order) twist.items) }
+        ensures err { IfErr result (IsNetFault tensors.entry.items (given order) twist.items) }
     {
         group.known();
         known_members(&tensors);
