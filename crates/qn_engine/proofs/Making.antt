@@ -246,3 +246,20 @@ taken_narrow fs sec p q [] k = absurd k
 taken_narrow fs sec p q (g ∷ []) k = absurd k.1
 taken_narrow fs sec p q (g ∷ h ∷ []) k = (k.0.narrow, k.1.0.narrow)
 taken_narrow fs sec p q (g ∷ h ∷ i ∷ gs) k = absurd k.1.1
+
+-- their labels are one for each leg
+pub taken_long : (fs : List Factor) (sec : ℤ → List SectorValue) (p q : PartValue) (gs : List TensorGroup) → ArePartsOf fs sec (p ∷ q ∷ []) gs →
+    (length p.labels ≡ length (member_tensor p.member).legs) × (length q.labels ≡ length (member_tensor q.member).legs)
+taken_long fs sec p q [] k = absurd k
+taken_long fs sec p q (g ∷ []) k = absurd k.1
+taken_long fs sec p q (g ∷ h ∷ []) k = (labels_long fs sec p g k.0, labels_long fs sec q h k.1.0)
+taken_long fs sec p q (g ∷ h ∷ i ∷ gs) k = absurd k.1.1
+
+pub labels_at : (p : PartValue) (m : MemberValue) (ls : List ℤ) → m ≡ p.member → ls ≡ p.labels → length p.labels ≡ length (member_tensor p.member).legs → length ls ≡ length (member_tensor m).legs
+labels_at p m ls em el k = ap (λ (xs : List ℤ). length xs) el ∙ k ∙ ap (λ n. length (member_tensor n).legs) (sym em)
+
+pub trace_narrow : (fs : List Factor) (sec : ℤ → List SectorValue) (p : PartValue) (gs : List TensorGroup) → ArePartsOf fs sec (p ∷ []) gs →
+    IsNarrow p.member × (length p.labels ≡ length (member_tensor p.member).legs)
+trace_narrow fs sec p [] k = absurd k
+trace_narrow fs sec p (g ∷ []) k = (k.0.narrow, labels_long fs sec p g k.0)
+trace_narrow fs sec p (g ∷ h ∷ gs) k = absurd k.1

@@ -22,6 +22,7 @@ use qn_block::laws::entries_of_blocks;
 use qn_block::{BlockTensor, StepFault};
 use qn_gauss::Steps;
 use qn_net::operations::{pair_step_law, trace_step_law};
+use qn_net::plans::plain_step_law;
 use qn_pair::{Gate, contract};
 use qn_plan::{Step, StepKind};
 use qn_trace::trace;
@@ -168,6 +169,7 @@ fn fuse_first<'a, const K: usize>(
     ensures { IfOk result (λ r. (net : NetworkValue) (n : ℕ) → IsPairAt net n first.entry second.entry between_odd summed.now twist.now → IsMadeAt net n r) }
 {
     entries_of_blocks();
+    plain_step_law();
     let Part { number, labels, .. } = first;
     let Part {
         held,
@@ -207,6 +209,7 @@ fn fuse_second<'a, const K: usize>(
     ensures { IfOk result (λ r. (net : NetworkValue) (n : ℕ) → IsPairAt net n first.entry second.entry between_odd summed.now twist.now → IsMadeAt net n r) }
 {
     entries_of_blocks();
+    plain_step_law();
     let Part {
         number,
         held,

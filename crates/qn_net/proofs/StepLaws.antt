@@ -111,7 +111,7 @@ trace_plain fs sectors opens s before g behind bonds left p cs sound at lines hp
 
 -- from a like step
 
-moved_to : (fs : List Factor) (sectors : ℤ → List SectorValue) (opens : List End) (t u : Step) (bonds : List Bond) (r : TensorValue) (ls : List ℤ) → IsLikeStep (parities_on fs sectors) opens t u →
+pub moved_to : (fs : List Factor) (sectors : ℤ → List SectorValue) (opens : List End) (t u : Step) (bonds : List Bond) (r : TensorValue) (ls : List ℤ) → IsLikeStep (parities_on fs sectors) opens t u →
     IsTensorOf fs sectors (record { tensor = r; labels = labels_left ls (map untwist bonds) }) (result (parities_on fs sectors) u) →
     IsTensorOf fs sectors (record { tensor = r; labels = labels_left ls bonds }) (result (parities_on fs sectors) t)
 moved_to fs sectors opens t u bonds r ls like h = record {

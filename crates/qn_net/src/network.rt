@@ -231,7 +231,7 @@ impl<const K: usize> Network<K> {
 
     /// What holds of each network. Nothing is done.
     pub fn known(&self)
-        ensures { IsWellFormed self.now }
+        ensures well_formed { IsWellFormed self.now }
     {
         let _group = &self.group;
     }
