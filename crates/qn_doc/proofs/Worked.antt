@@ -52,7 +52,7 @@ printable = record {
 some : pos 1 ≢ pos 0
 some e = cc
 
-document : IsPrintableNetwork fermions (pos 1 ∷ []) (worked_member ∷ [])
+document : IsPrintableNetwork fermions (pos 1 ∷ []) (worked_member ∷ []) []
 document = record {
   group = (tt, tt);
   factors = omega arith;
@@ -60,12 +60,13 @@ document = record {
   few = omega arith;
   members = one (IsPrintableMember fermions) worked_member (record { value = (refl, printable); labels = two IsNumber (pos 1) (pos 1) (omega arith) (omega arith) });
   ordered = one IsNumber (pos 1) (omega arith);
+  twisted = All-nil IsNumber;
 }
 
 labels : All HasLabels (worked_member ∷ [])
 labels = one HasLabels worked_member (two IsLabel (pos 1) (pos 1) (some, omega arith) (some, omega arith))
 
-tree : tree_of worked_text ≡ Some (network_data fermions (pos 1 ∷ []) (worked_member ∷ []))
+tree : tree_of worked_text ≡ Some (network_data fermions (pos 1 ∷ []) (worked_member ∷ []) [])
 unfolding serde_json_on_literals is_utf8 chars digits
 tree = refl
 
@@ -76,7 +77,6 @@ long = refl
 pub worked : IsDocumentOf trace_alone worked_text
 worked = record {
   network = well_formed;
-  untwisted = refl;
   written = record { members = worked_member ∷ []; held = one (λ (m : LabelledMember). IsHeld m.member) worked_member printable.blocked; are = refl; is = refl; tree = tree };
   printable = document;
   labels = labels;
