@@ -1,5 +1,5 @@
 -- A step on the list of parts: the parts that it takes, and the list with its result.
-use Rattle.std.proofs.Common.{◌≡◌, ◌≢◌, ◌≤◌, ◌<◌, ◌-◌, ℕ, suc, ◌+◌, Bool, true, false, ◌||◌, if◌then◌else◌, List, [], ◌∷◌, ◌++◌, refl, sym, ◌∙◌, ap, ap₂, subst, length, append_assoc, add-one, get_or, take, drop, arith}
+use Rattle.std.proofs.Common.{ℤ, ◌≡◌, ◌≢◌, ◌≤◌, ◌<◌, ◌-◌, ℕ, suc, ◌+◌, Bool, true, false, ◌||◌, if◌then◌else◌, List, [], ◌∷◌, ◌++◌, refl, sym, ◌∙◌, ap, ap₂, subst, length, append_assoc, add-one, get_or, take, drop, arith}
 use Rattle.std.specs.List.{remove, insert}
 use Rattle.std.proofs.lemmas.List.{length-append}
 use Rattle.qn_value.specs.Networks.{labels}

@@ -1,5 +1,5 @@
 -- Tensors that are twisted before a step, and the groups whose tensors they are.
-use Rattle.std.proofs.Common.{◌≡◌, ◌<◌, ℕ, zero, suc, ◌+◌, ℤ, Bool, true, false, ◌&&◌, ◌||◌, cond, List, [], ◌∷◌, ◌++◌, refl, sym, ◌∙◌, ap, ap₂, subst, map, filter, length, get_or, drop, add-one, append-nil, append_assoc, int_eq, ◌⊎◌, inl, inr, arith}
+use Rattle.std.proofs.Common.{◌≡◌, ◌<◌, ℕ, zero, suc, ◌+◌, ◌≤◌, ℤ, pos, Bool, true, false, ◌&&◌, ◌||◌, cond, List, [], ◌∷◌, ◌++◌, refl, sym, ◌∙◌, ap, ap₂, subst, map, filter, length, get_or, drop, add-one, append-nil, append_assoc, int_eq, ◌⊎◌, inl, inr, arith}
 use mathlib.Core.Path.{fun_ext}
 use Rattle.std.specs.List.{All}
 use Rattle.std.proofs.lemmas.Bool.{or_left}
@@ -27,30 +27,41 @@ use Rattle.qn_engine.specs.Parts.{IsSameTensor}
 use Rattle.qn_engine.specs.Twisting.{is_twisted_leg, twisted_places}
 
 -- one leg more
-pub places_more : (all : Bool) (summed twist : List ℤ) (n i : ℕ) (gs : List LegValue) (ls : List ℤ) (g : LegValue) (l : ℤ) → i < length gs → length ls ≡ length gs → g ≡ get_or gs i g → l ≡ get_or ls i l →
-    cond (is_twisted_leg all summed twist (is_inward g.arrow) l) ((n + i) ∷ []) [] ++ twisted_places all summed twist (suc (n + i)) (drop (suc i) gs) (drop (suc i) ls) ≡
-    twisted_places all summed twist (n + i) (drop i gs) (drop i ls)
-places_more all summed twist n i [] ls g l lt e eg el = absurd (omega (arith, lt))
-places_more all summed twist n i (x ∷ gs) [] g l lt e eg el = absurd (omega (arith, e))
-places_more all summed twist n zero (x ∷ gs) (k ∷ ls) g l lt e eg el =
-    subst (λ (y : LegValue). cond (is_twisted_leg all summed twist (is_inward y.arrow) l) ((n + 0) ∷ []) [] ++ rest ≡ here) (sym eg)
-    (subst (λ (j : ℤ). cond (is_twisted_leg all summed twist (is_inward x.arrow) j) ((n + 0) ∷ []) [] ++ rest ≡ here) (sym el)
-    (by (is_twisted_leg all summed twist (is_inward x.arrow) k)))
+places_more : (all : Bool) (summed twist : List ℤ) (m i : ℕ) (gs : List LegValue) (ls : List ℤ) (g : LegValue) → i < length gs → length ls ≡ length gs → g ≡ get_or gs i g →
+    cond (is_twisted_leg all summed twist (is_inward g.arrow) (get_or ls i (pos 0))) (m ∷ []) [] ++ twisted_places all summed twist (suc m) (drop (suc i) gs) (drop (suc i) ls) ≡
+    twisted_places all summed twist m (drop i gs) (drop i ls)
+places_more all summed twist m i [] ls g lt e eg = absurd (omega (arith, lt))
+places_more all summed twist m i (x ∷ gs) [] g lt e eg = absurd (omega (arith, e))
+places_more all summed twist m zero (x ∷ gs) (k ∷ ls) g lt e eg =
+    ap (λ (y : LegValue). cond (is_twisted_leg all summed twist (is_inward y.arrow) k) (m ∷ []) [] ++ twisted_places all summed twist (suc m) gs ls) eg
+    ∙ by (is_twisted_leg all summed twist (is_inward x.arrow) k)
   where
-    rest : List ℕ
-    rest = twisted_places all summed twist (suc (n + 0)) gs ls
-
-    here : List ℕ
-    here = twisted_places all summed twist (n + 0) (x ∷ gs) (k ∷ ls)
-
-    by : (b : Bool) → cond b ((n + 0) ∷ []) [] ++ rest ≡ cond b ((n + 0) ∷ rest) rest
+    by : (b : Bool) → cond b (m ∷ []) [] ++ twisted_places all summed twist (suc m) gs ls ≡ cond b (m ∷ twisted_places all summed twist (suc m) gs ls) (twisted_places all summed twist (suc m) gs ls)
     by true = refl
     by false = refl
-places_more all summed twist n (suc i) (x ∷ gs) (k ∷ ls) g l lt e eg el =
-    let f : n + suc i ≡ suc n + i = omega arith in
-    subst (λ m. cond (is_twisted_leg all summed twist (is_inward g.arrow) l) (m ∷ []) [] ++ twisted_places all summed twist (suc m) (drop (suc i) gs) (drop (suc i) ls) ≡
-        twisted_places all summed twist m (drop i gs) (drop i ls)) (sym f)
-    (places_more all summed twist (suc n) i gs ls g l (omega (arith, lt)) (omega (arith, e)) eg el)
+places_more all summed twist m (suc i) (x ∷ gs) (k ∷ ls) g lt e eg = places_more all summed twist m i gs ls g (omega (arith, lt)) (omega (arith, e)) eg
+
+pub places_next : (all : Bool) (summed twist : List ℤ) (i : ℕ) (gs : List LegValue) (ls : List ℤ) (g : LegValue) (b : Bool) (ps qs whole : List ℕ) → i < length gs → length ls ≡ length gs → g ≡ get_or gs i g →
+    b ≡ is_twisted_leg all summed twist (is_inward g.arrow) (get_or ls i (pos 0)) → qs ≡ ps ++ cond b (i ∷ []) [] → ps ++ twisted_places all summed twist i (drop i gs) (drop i ls) ≡ whole →
+    qs ++ twisted_places all summed twist (i + 1) (drop (i + 1) gs) (drop (i + 1) ls) ≡ whole
+places_next all summed twist i gs ls g b ps qs whole lt e eg eb eq h =
+    ap (λ n. qs ++ twisted_places all summed twist n (drop n gs) (drop n ls)) (add-one i)
+    ∙ ap (λ xs. xs ++ rest) (eq ∙ ap (λ t. ps ++ cond t (i ∷ []) []) eb)
+    ∙ append_assoc ps (cond (is_twisted_leg all summed twist (is_inward g.arrow) (get_or ls i (pos 0))) (i ∷ []) []) rest
+    ∙ ap (λ xs. ps ++ xs) (places_more all summed twist i i gs ls g lt e eg)
+    ∙ h
+  where
+    rest : List ℕ
+    rest = twisted_places all summed twist (suc i) (drop (suc i) gs) (drop (suc i) ls)
+
+pub places_end : (all : Bool) (summed twist : List ℤ) (i : ℕ) (gs : List LegValue) (ls : List ℤ) (ps whole : List ℕ) → length gs ≤ i → ps ++ twisted_places all summed twist i (drop i gs) (drop i ls) ≡ whole → ps ≡ whole
+places_end all summed twist i gs ls ps whole le h = sym (ap (λ xs. ps ++ xs) (none i gs i (drop i ls) le) ∙ append-nil ps) ∙ h
+  where
+    none : (m : ℕ) (gs : List LegValue) (i : ℕ) (ls : List ℤ) → length gs ≤ i → twisted_places all summed twist m (drop i gs) ls ≡ []
+    none m [] zero ls le = refl
+    none m [] (suc i) ls le = refl
+    none m (g ∷ gs) zero ls le = absurd (omega (arith, le))
+    none m (g ∷ gs) (suc i) ls le = none m gs i ls (omega (arith, le))
 
 -- the places are those of legs
 within_from : (all : Bool) (summed twist : List ℤ) (n m : ℕ) (gs : List LegValue) (ls : List ℤ) → n + length gs ≡ m → All (λ k. k < m) (twisted_places all summed twist n gs ls)
@@ -117,27 +128,25 @@ marked_here : (tw : List ℤ) (sectors : ℤ → List SectorValue) (bs : List Bo
     (is_in int_eq l (labels bs) && is_in int_eq l tw) ≡ is_in int_eq l (labels (filter (λ b. b.twisted) bs))
 marked_here tw sectors [] h l = refl
 marked_here tw sectors (b ∷ bs) h l =
-    by (int_eq l b.label) refl
+    by (int_eq l b.label) refl (marked_here tw sectors bs h.2 l)
     ∙ ap (λ t. is_in int_eq l (labels (cond t (b ∷ filter (λ b. b.twisted) bs) (filter (λ b. b.twisted) bs)))) (sym h.1)
   where
-    ih : (is_in int_eq l (labels bs) && is_in int_eq l tw) ≡ is_in int_eq l (labels (filter (λ b. b.twisted) bs))
-    ih = marked_here tw sectors bs h.2 l
+    nothing : (x y : Bool) → y ≡ false → (x && y) ≡ false
+    nothing true y e = e
+    nothing false y e = refl
 
-    by : (e : Bool) → int_eq l b.label ≡ e → ((e || is_in int_eq l (labels bs)) && is_in int_eq l tw) ≡
+    by : (e : Bool) → int_eq l b.label ≡ e → (is_in int_eq l (labels bs) && is_in int_eq l tw) ≡ is_in int_eq l (labels (filter (λ b. b.twisted) bs)) →
+        ((e || is_in int_eq l (labels bs)) && is_in int_eq l tw) ≡
         is_in int_eq l (labels (cond (is_in int_eq b.label tw) (b ∷ filter (λ b. b.twisted) bs) (filter (λ b. b.twisted) bs)))
-    by true q = at (is_in int_eq b.label tw) refl
+    by true q ih = at (is_in int_eq b.label tw) refl
       where
         same : is_in int_eq l tw ≡ is_in int_eq b.label tw
         same = ap (λ k. is_in int_eq k tw) (label_test.equal l b.label q)
 
-        nothing : (x y : Bool) → y ≡ false → (x && y) ≡ false
-        nothing true y e = e
-        nothing false y e = refl
-
         at : (t : Bool) → is_in int_eq b.label tw ≡ t → is_in int_eq l tw ≡ is_in int_eq l (labels (cond t (b ∷ filter (λ b. b.twisted) bs) (filter (λ b. b.twisted) bs)))
         at true r = same ∙ r ∙ sym (or_left (int_eq l b.label) (is_in int_eq l (labels (filter (λ b. b.twisted) bs))) q)
         at false r = same ∙ r ∙ sym (sym ih ∙ nothing (is_in int_eq l (labels bs)) (is_in int_eq l tw) (same ∙ r))
-    by false q = ih ∙ at (is_in int_eq b.label tw)
+    by false q ih = ih ∙ at (is_in int_eq b.label tw)
       where
         at : (t : Bool) → is_in int_eq l (labels (filter (λ b. b.twisted) bs)) ≡ is_in int_eq l (labels (cond t (b ∷ filter (λ b. b.twisted) bs) (filter (λ b. b.twisted) bs)))
         at true = ap (λ e. e || is_in int_eq l (labels (filter (λ b. b.twisted) bs))) (sym q)

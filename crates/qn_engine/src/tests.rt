@@ -315,7 +315,7 @@ fn network_of<const K: usize>(
         Some(list) => Some(Vec::from_slice(alloc, list)?),
         None => None,
     };
-    match Network::new(alloc, *group, tensors, order) {
+    match Network::new(alloc, *group, tensors, order, Vec::new(alloc)) {
         Ok(net) => Ok(net),
         Err(fault) => panic!(rt; "{fault:?}"),
     }

@@ -96,7 +96,7 @@ fn network_of(
         Some(list) => Some(list.to_vec(alloc)?),
         None => None,
     };
-    Ok(Network::new(alloc, group, tensors, order))
+    Ok(Network::new(alloc, group, tensors, order, Vec::new(alloc)))
 }
 
 // The charge of nothing is within the bound of a network. Nothing is done.
@@ -293,7 +293,7 @@ fn network_fusing(
     tensors.push(fusing(rt, alloc, &group, row, labels)?)?;
     tensors.push(member_of(rt, alloc, &group, other)?)?;
     assert!(rt; tensors.len() <= 256);
-    Ok(Network::new(alloc, group, tensors, None))
+    Ok(Network::new(alloc, group, tensors, None, Vec::new(alloc)))
 }
 
 #[test]

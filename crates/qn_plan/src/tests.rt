@@ -103,7 +103,7 @@ fn network_of(
         Some(list) => Some(list.to_vec(alloc)?),
         None => None,
     };
-    match Network::new(alloc, group, tensors, order) {
+    match Network::new(alloc, group, tensors, order, Vec::new(alloc)) {
         Ok(net) => Ok(net),
         Err(fault) => panic!(rt; "{fault:?}"),
     }
@@ -308,7 +308,7 @@ fn a_plan_that_fuses(rt: HostRuntime) -> Result<(), Fail> {
     tensors.push(fusing(&rt, rt.alloc(), &group, &I, &[-1, 1])?)?;
     tensors.push(member_of(&rt, rt.alloc(), &group, &(&[I], -1, &[1]))?)?;
     assert!(&rt; tensors.len() <= 256);
-    match Network::new(rt.alloc(), group, tensors, None) {
+    match Network::new(rt.alloc(), group, tensors, None, Vec::new(rt.alloc())) {
         Ok(net) => match plan(rt.alloc(), &net) {
             Ok(steps) => compare(&rt, &steps, &[(StepKind::Fuse, 1, 2, 1, 0, 0)]),
             Err(fault) => panic!(&rt; "{fault:?}"),

@@ -1,4 +1,4 @@
-use Rattle.std.proofs.Common.{lit<, sym, ◌∙◌, ap, subst}
+use Rattle.std.proofs.Common.{true, lit<, sym, ◌∙◌, ap, subst}
 use Rattle.std.proofs.lemmas.Result.{IfOk-weaker}
 use Rattle.qn_net.specs.Members.{IsNarrow}
 use Rattle.qn_net.specs.NetworkValues.{sectors}
@@ -15,9 +15,11 @@ twisted-requires g c =
       lit< tt,
       (
         lit< tt,
-        subst IsNarrow (sym (ap (λ (p : PartValue). p.member) c.second.view_is)) (taken_narrow net.group (sectors net) c.args.first c.args.second (takes (step_at net c.requires.step.1)) c.requires.step.2.taken).1,
-        labels_at c.args.second _ _ (ap (λ (p : PartValue). p.member) c.second.view_is) (c.deref.ensures.value ∙ ap (λ (p : PartValue). p.labels) c.second.view_is)
-            (taken_long net.group (sectors net) c.args.first c.args.second (takes (step_at net c.requires.step.1)) c.requires.step.2.taken).1,
+        (
+          subst IsNarrow (sym (ap (λ (p : PartValue). p.member) c.second.view_is)) (taken_narrow net.group (sectors net) c.args.first c.args.second (takes (step_at net c.requires.step.1)) c.requires.step.2.taken).1,
+          labels_at c.args.second _ _ (ap (λ (p : PartValue). p.member) c.second.view_is) (c.deref.ensures.value ∙ ap (λ (p : PartValue). p.labels) c.second.view_is)
+              (taken_long net.group (sectors net) c.args.first c.args.second (takes (step_at net c.requires.step.1)) c.requires.step.2.taken).1,
+        ),
       ),
     )
 

@@ -1,4 +1,4 @@
-use Rattle.std.proofs.Common.{List, ℤ, lit<, sym, ◌∙◌, ap, ap₂, subst}
+use Rattle.std.proofs.Common.{true, List, ℤ, lit<, sym, ◌∙◌, ap, ap₂, subst}
 use Rattle.qn_block.specs.Steps.{IsStepFault}
 use Rattle.qn_net.specs.Members.{IsNarrow}
 use Rattle.qn_net.specs.NetworkValues.{sectors}
@@ -15,9 +15,11 @@ twisted-requires g c =
       lit< tt,
       (
         lit< tt,
-        subst IsNarrow (sym (ap (λ (p : PartValue). p.member) c.first.view_is)) (taken_narrow net.group (sectors net) c.args.first c.args.second (takes (step_at net c.args.done)) c.requires.step.1.taken).0,
-        labels_at c.args.first _ _ (ap (λ (p : PartValue). p.member) c.first.view_is) (c.deref.ensures.value ∙ ap (λ (p : PartValue). p.labels) c.first.view_is)
-            (taken_long net.group (sectors net) c.args.first c.args.second (takes (step_at net c.args.done)) c.requires.step.1.taken).0,
+        (
+          subst IsNarrow (sym (ap (λ (p : PartValue). p.member) c.first.view_is)) (taken_narrow net.group (sectors net) c.args.first c.args.second (takes (step_at net c.args.done)) c.requires.step.1.taken).0,
+          labels_at c.args.first _ _ (ap (λ (p : PartValue). p.member) c.first.view_is) (c.deref.ensures.value ∙ ap (λ (p : PartValue). p.labels) c.first.view_is)
+              (taken_long net.group (sectors net) c.args.first c.args.second (takes (step_at net c.args.done)) c.requires.step.1.taken).0,
+        ),
       ),
     )
 

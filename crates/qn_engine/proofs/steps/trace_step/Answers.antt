@@ -1,4 +1,4 @@
-use Rattle.std.proofs.Common.{List, ℤ, lit<, sym, ◌∙◌, ap, subst}
+use Rattle.std.proofs.Common.{false, List, ℤ, lit<, sym, ◌∙◌, ap, subst}
 use Rattle.qn_block.specs.Steps.{IsStepFault}
 use Rattle.qn_net.specs.Members.{IsNarrow}
 use Rattle.qn_net.specs.NetworkValues.{sectors}
@@ -16,8 +16,10 @@ twisted-requires g c =
       lit< tt,
       (
         lit< tt,
-        subst IsNarrow (sym (ap (λ (p : PartValue). p.member) c.part.view_is)) k.0,
-        labels_at c.args.part _ _ (ap (λ (p : PartValue). p.member) c.part.view_is) (c.deref.ensures.value ∙ ap (λ (p : PartValue). p.labels) c.part.view_is) k.1,
+        (
+          subst IsNarrow (sym (ap (λ (p : PartValue). p.member) c.part.view_is)) k.0,
+          labels_at c.args.part _ _ (ap (λ (p : PartValue). p.member) c.part.view_is) (c.deref.ensures.value ∙ ap (λ (p : PartValue). p.labels) c.part.view_is) k.1,
+        ),
       ),
     )
 
