@@ -21,7 +21,7 @@ use Rattle.qn_value.proofs.Sums.{label_test}
 use Rattle.qn_net.specs.Groups.{TensorGroup}
 use Rattle.qn_net.specs.Operations.{parities_on, IsNodeOf, IsTensorOf, AreTwistedLines}
 use Rattle.qn_net.specs.TwistedSteps.{twisted_group, twisted_where, twisted_inward}
-use Rattle.qn_net.proofs.Held.{entry_range}
+use Rattle.qn_net.proofs.Held.{entry_range, arrow_there}
 use Rattle.qn_twist.specs.Twisted.{leg_at, odd_values, Twisted}
 use Rattle.qn_engine.specs.Parts.{IsSameTensor}
 use Rattle.qn_engine.specs.Twisting.{is_twisted_leg, twisted_places}
@@ -94,17 +94,13 @@ behind_first : (fs : List Factor) (g : LegValue) (gs : List LegValue) (x : ℕ) 
 behind_first fs g gs x xs [] = refl
 behind_first fs g gs x xs (k ∷ ks) = ap (xor (parity_at fs (leg_at gs k).sectors (get_or xs k 0))) (behind_first fs g gs x xs ks)
 
-there : (b : Bool) → is_inward (arrow_of b) ≡ b
-there true = refl
-there false = refl
-
 pub odd_places : (fs : List Factor) (sectors : ℤ → List SectorValue) (all : Bool) (summed twist : List ℤ) (es : List End) (xs : List ℕ) → length xs ≡ length es →
     odd_values fs (legs_on sectors es) (twisted_places all summed twist 0 (legs_on sectors es) (map (λ e. e.label) es)) xs ≡
     odd_among (parities_on fs sectors) (λ e. is_twisted_leg all summed twist e.inward e.label) es xs
 odd_places fs sectors all summed twist [] xs l = refl
 odd_places fs sectors all summed twist (e ∷ es) [] l = absurd (omega (arith, l))
 odd_places fs sectors all summed twist (e ∷ es) (x ∷ xs) l =
-    ap (λ b. odd_values fs (legs_on sectors (e ∷ es)) (cond (is_twisted_leg all summed twist b e.label) (0 ∷ rest) rest) (x ∷ xs)) (there e.inward)
+    ap (λ b. odd_values fs (legs_on sectors (e ∷ es)) (cond (is_twisted_leg all summed twist b e.label) (0 ∷ rest) rest) (x ∷ xs)) (arrow_there e.inward)
     ∙ go (is_twisted_leg all summed twist e.inward e.label) (odd_places fs sectors all summed twist es xs (omega (arith, l)))
   where
     rest : List ℕ

@@ -7,6 +7,7 @@ pub mod PlanFind
 pub mod PlanLemmas
 pub mod PlanTwist
 pub mod PlainSteps
+pub mod AllTwisted
 pub mod PassLemmas
 pub mod PassingLemmas
 pub mod NetworkLemmas

@@ -1,7 +1,10 @@
 -- Steps over twisted lines: a tensor is twisted before the step, which then sums lines that are not.
 use Rattle.std.specs.Prelude.{◌≡◌, ℕ, Bool, true, false, ◌&&◌, not, List, ◌∷◌, ◌++◌, map}
-use Rattle.qn_value.specs.Networks.{End, Bond, Parities, traced, odd_flux}
-use Rattle.qn_value.specs.Twists.{twisted_at, is_twisted, untwist}
+use Rattle.std.specs.Ordering.{int_eq}
+use Rattle.qn_sign.specs.Sign.{is_in, IsDistinct}
+use Rattle.qn_gauss.specs.Gaussian.{signed}
+use Rattle.qn_value.specs.Networks.{End, Node, Bond, Parities, same_end, labels, pairwise, traced, odd_flux, IsHomogeneous}
+use Rattle.qn_value.specs.Twists.{twisted_at, is_twisted, untwist, HasOneEnd}
 use Rattle.qn_net.specs.Groups.{TensorGroup, nodes, pairwise_past, joined, closed}
 use Rattle.qn_net.specs.Steps.{Step, State, result, IsStepAt}
 use Rattle.qn_net.specs.Steps.Step.{pair, trace}
@@ -58,3 +61,13 @@ pub record IsLikeStep (par : Parities) (opens : List End) (t u : Step) : Type 0 
 abbrev pub PlainStepLaw : Type 0
 PlainStepLaw =
     (par : Parities) (opens : List End) (s : State) (t : Step) (earlier : Bool) → IsSoundState par opens s → IsStepAt s t → IsLikeStep par opens t (plain_step par earlier t)
+
+abbrev pub twist : Bond → Bond
+twist b = record { label = b.label; dim = b.dim; twisted = true }
+
+-- all lines of a tensor that has no other legs, twisted together, change nothing but by the parity of its flux
+abbrev pub AllTwistedLaw : Type 0
+AllTwistedLaw =
+    (par : Parities) (x y : Node) (shared : List Bond) → IsDistinct same_end x.ends → IsDistinct int_eq (labels shared) → HasOneEnd (λ e. true) x shared →
+    ((e : End) → is_in same_end e x.ends ≡ true → is_in int_eq e.label (labels shared) ≡ true) → IsHomogeneous par x → (xs : List ℕ) →
+    (pairwise par x y (map twist shared)).entry xs ≡ signed x.odd ((pairwise par x y (map untwist shared)).entry xs)

@@ -2,7 +2,7 @@
 
 ghost use Rattle.qn_net.specs.Carried.{PartLaw, PlanLaw, StepsLaw};
 ghost use Rattle.qn_net.specs.Plans.{TakenLaw};
-ghost use Rattle.qn_net.specs.TwistedSteps.{PlainStepLaw, TwistedStepLaw};
+ghost use Rattle.qn_net.specs.TwistedSteps.{AllTwistedLaw, PlainStepLaw, TwistedStepLaw};
 
 /// Whatever the order of the labels, the steps of the plan end with one tensor, which has the value of the network.
 pub fn plan_law()
@@ -32,4 +32,10 @@ pub fn part_law()
 /// A step over twisted lines is a step over lines that are not, of a state in which a tensor was twisted.
 pub fn plain_step_law()
     ensures { PlainStepLaw }
+{}
+
+/// All lines between two tensors, one of which has no other legs, twisted together change nothing but by the parity of
+/// its flux.
+pub fn all_twisted_law()
+    ensures { AllTwistedLaw }
 {}

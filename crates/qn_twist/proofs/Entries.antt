@@ -17,10 +17,11 @@ use Rattle.qn_value.proofs.Values.{same_values-equal}
 use Rattle.qn_block.specs.Blocked.{BlockedValue, IsBlocked, tensor_of}
 use Rattle.qn_twist.specs.Twisted.{leg_at, odd_sectors, odd_values, twisted_block, twisted, Twisted}
 
-index-signed : (s : Bool) (xs : List Gaussian) (n : ℕ) → slice_index_or (map (signed s) xs) n zero_g ≡ signed s (slice_index_or xs n zero_g)
-index-signed s [] n = sym (signed-zero s)
-index-signed s (x ∷ xs) zero = refl
-index-signed s (x ∷ xs) (suc n) = index-signed s xs n
+-- a changed list at a place, where 0 is not changed
+index_changed : (f : Gaussian → Gaussian) → f zero_g ≡ zero_g → (xs : List Gaussian) (n : ℕ) → slice_index_or (map f xs) n zero_g ≡ f (slice_index_or xs n zero_g)
+index_changed f z [] n = sym z
+index_changed f z (x ∷ xs) zero = refl
+index_changed f z (x ∷ xs) (suc n) = index_changed f z xs n
 
 -- the parity of a leg's value is that of its sector
 odd_here : (fs : List Factor) (ls : List LegValue) (xs : List ℕ) (k : ℕ) → IsValues ls xs →
@@ -46,7 +47,7 @@ entry_twisted fs ls places (b ∷ bs) xs h = go (same_values b.tuple (sectors_at
         cond p (slice_index_or (twisted_block fs ls places b).entries (offset_at ls xs) zero_g) (entry_in ls (map (twisted_block fs ls places) bs) xs)
         ≡ signed s (cond p (slice_index_or b.entries (offset_at ls xs) zero_g) (entry_in ls bs xs))
     go true e ih =
-        index-signed (odd_sectors fs ls places b.tuple) b.entries (offset_at ls xs)
+        index_changed (signed (odd_sectors fs ls places b.tuple)) (signed-zero (odd_sectors fs ls places b.tuple)) b.entries (offset_at ls xs)
         ∙ ap (λ t. signed t (slice_index_or b.entries (offset_at ls xs) zero_g))
         (ap (odd_sectors fs ls places) (same_values-equal b.tuple (sectors_at ls xs) e) ∙ odd_same fs ls places xs h)
     go false e ih = ih
