@@ -54,8 +54,8 @@ places_next all summed twist i gs ls g b ps qs whole lt e eg eb eq h =
     rest : List ℕ
     rest = twisted_places all summed twist (suc i) (drop (suc i) gs) (drop (suc i) ls)
 
-pub places_end : (all : Bool) (summed twist : List ℤ) (i : ℕ) (gs : List LegValue) (ls : List ℤ) (ps whole : List ℕ) → length gs ≤ i → ps ++ twisted_places all summed twist i (drop i gs) (drop i ls) ≡ whole → ps ≡ whole
-places_end all summed twist i gs ls ps whole le h = sym (ap (λ xs. ps ++ xs) (none i gs i (drop i ls) le) ∙ append-nil ps) ∙ h
+pub places_end : (all : Bool) (summed twist : List ℤ) (i : ℕ) (gs : List LegValue) (ls : List ℤ) (ps whole : List ℕ) → length gs ≤ i → ps ++ twisted_places all summed twist i (drop i gs) ls ≡ whole → ps ≡ whole
+places_end all summed twist i gs ls ps whole le h = sym (ap (λ xs. ps ++ xs) (none i gs i ls le) ∙ append-nil ps) ∙ h
   where
     none : (m : ℕ) (gs : List LegValue) (i : ℕ) (ls : List ℤ) → length gs ≤ i → twisted_places all summed twist m (drop i gs) ls ≡ []
     none m [] zero ls le = refl
@@ -191,6 +191,10 @@ pub twisted_alone : (fs : List Factor) (sectors : ℤ → List SectorValue) (tw 
     Twisted p.tensor (twisted_places false (labels bonds) tw 0 p.tensor.legs p.labels) a → IsTensorOf fs sectors (record { tensor = a; labels = p.labels }) (twisted_inward (parities_on fs sectors) bonds g)
 twisted_alone fs sectors tw bonds p g a lines =
     twisted_tensor fs sectors false (labels bonds) tw (λ e. e.inward && is_twisted bonds e) p g a (λ e. ap (λ t. e.inward && t) (marked_here tw sectors bonds lines e.label))
+
+pub nothing_there : (ks : List ℕ) → length ks ≡ 0 → ks ≡ []
+nothing_there [] e = refl
+nothing_there (k ∷ ks) e = absurd (omega (arith, e))
 
 -- a tensor that is twisted nowhere, or made from a table and then twisted
 pub twisted_nowhere : (t : TensorValue) → Twisted t [] t
