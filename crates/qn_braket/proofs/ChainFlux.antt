@@ -66,7 +66,7 @@ module _ (fs : List Factor) (group : IsGroup fs) where
   -- conjugates, and other members after them
   all_fluxes : (labels : ℕ → List ℤ) (ts cs : List BlockedValue) (ms : List LabelledMember) (q : List ℤ) → All (λ t. t.group ≡ fs) ts → AreConjugates ts cs →
       sum_flux fs (map (λ m. (member_tensor m.member).flux) ms) ≡ q →
-      network_flux (network_of fs (back_with_labels labels cs ++ ms) None) ≡ sum_charge fs q (neg_charge fs (chain_flux fs ts))
+      network_flux (network_of fs (back_with_labels labels cs ++ ms) None []) ≡ sum_charge fs q (neg_charge fs (chain_flux fs ts))
   all_fluxes labels ts cs ms q g h e =
       ap (sum_flux fs)
       (member_fluxes (back_with_labels labels cs ++ ms) ∙ map-append (λ (m : LabelledMember). (member_tensor m.member).flux) (back_with_labels labels cs) ms)

@@ -190,7 +190,7 @@ module _ (sites : List LegValue) (ts : List BlockedValue) (few : length sites �
   abbrev line : ℤ → List SectorValue
   line = expect_line sec r r r
 
-  pub state_faultless : IsStateChain sites ts → IsFaultless (state_members ts) None
+  pub state_faultless : IsStateChain sites ts → IsFaultless (state_members ts) None []
   state_faultless c =
       faultless_from (state_members ts) (suc m)
       (chain_labelled state_legs (λ j. own_upper j ∷ []) own_link sites ts c few (λ j l. refl) (λ j b. (own_uppers j b, tt)) own_links)
@@ -221,7 +221,7 @@ module _ (sites : List LegValue) (ts : List BlockedValue) (few : length sites �
           StateValues.state_lines [] sec r (tensors ts) m is own_upper own_link (λ l. line (state_names expect_upper expect_bra l))
           (λ k. ExpectValues.upper_line sec r r r k) (λ k. ExpectValues.bra_line sec r r r k)
 
-  pub operator_faultless : IsOperatorChain sites ts → IsFaultless (operator_members ts) None
+  pub operator_faultless : IsOperatorChain sites ts → IsFaultless (operator_members ts) None []
   operator_faultless c =
       faultless_from (operator_members ts) (2 * m + 2)
       (chain_labelled operator_legs (λ j. own_upper j ∷ own_lower (length ts - 1) j ∷ []) own_link sites ts c few (λ j l. refl)

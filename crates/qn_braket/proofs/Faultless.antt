@@ -179,7 +179,7 @@ have_labels (m ∷ ms) h zero b = go b.1
 have_labels (m ∷ ms) h (suc i) b = have_labels ms h.1 i (omega (arith, b.0), b.1)
 
 pub faultless_from : (ms : List LabelledMember) (n : ℕ) → AllLabelled ms → IsWellLabelled (ends_of_members ms) n → (line : ℤ → List SectorValue) → HaveSectorsOn line (slots_of_members ms) →
-    IsFaultless ms None
+    IsFaultless ms None []
 faultless_from ms n h w line on =
     let es : List End = ends_of_members ms in
-    (((((have_labels ms h, counted es n w, repeated es n w), arrows es n w), sectors_meet line (slots_of_members ms) on), gaps es n w), tt)
+    (((((have_labels ms h, counted es n w, repeated es n w), arrows es n w), sectors_meet line (slots_of_members ms) on), gaps es n w), tt, (λ i b. absurd (omega (arith, b.0))))

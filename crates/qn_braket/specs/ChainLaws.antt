@@ -35,20 +35,20 @@ ElementsLaw =
 abbrev pub ChainFaultlessLaw : Type 0
 ChainFaultlessLaw =
     (sites : List LegValue) (ts : List BlockedValue) → length sites ≤ 64 →
-    (IsStateChain sites ts → IsFaultless (state_members ts) None) × (IsOperatorChain sites ts → IsFaultless (operator_members ts) None)
+    (IsStateChain sites ts → IsFaultless (state_members ts) None []) × (IsOperatorChain sites ts → IsFaultless (operator_members ts) None [])
 
 -- nor with those of an overlap's
 abbrev pub OverlapFaultlessLaw : Type 0
 OverlapFaultlessLaw =
     (sites : List LegValue) (bra conjugates ket : List BlockedValue) → length sites ≤ 64 →
-    IsStateChain sites bra → AreConjugates bra conjugates → IsStateChain sites ket → IsFaultless (overlap_members conjugates ket) None
+    IsStateChain sites bra → AreConjugates bra conjugates → IsStateChain sites ket → IsFaultless (overlap_members conjugates ket) None []
 
 -- nor with those of an expectation's
 abbrev pub ExpectFaultlessLaw : Type 0
 ExpectFaultlessLaw =
     (sites : List LegValue) (bra conjugates op ket : List BlockedValue) → length sites ≤ 64 →
     IsStateChain sites bra → AreConjugates bra conjugates → IsOperatorChain sites op → IsStateChain sites ket →
-    IsFaultless (expect_members conjugates op ket) None
+    IsFaultless (expect_members conjugates op ket) None []
 
 -- the sum of the fluxes of a network's tensors
 abbrev pub network_flux : NetworkValue → List ℤ

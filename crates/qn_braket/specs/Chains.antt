@@ -92,7 +92,7 @@ abbrev pub state_members : List BlockedValue → List LabelledMember
 state_members ts = with_labels (state_labels own_upper own_link (length ts)) 0 ts
 
 abbrev pub state_network : List Factor → List BlockedValue → NetworkValue
-state_network fs ts = network_of fs (state_members ts) None
+state_network fs ts = network_of fs (state_members ts) None []
 
 -- the network of an operator
 
@@ -100,7 +100,7 @@ abbrev pub operator_members : List BlockedValue → List LabelledMember
 operator_members ts = with_labels (operator_labels own_upper (own_lower (length ts - 1)) own_link (length ts)) 0 ts
 
 abbrev pub operator_network : List Factor → List BlockedValue → NetworkValue
-operator_network fs ts = network_of fs (operator_members ts) None
+operator_network fs ts = network_of fs (operator_members ts) None []
 
 -- the amplitude of a state at the values s of its sites: the value of its network
 abbrev pub amplitude : List Factor → List BlockedValue → List ℕ → Gaussian
@@ -140,7 +140,7 @@ overlap_members conjugates ket =
     ++ with_labels (state_labels overlap_site overlap_ket (length ket)) 0 ket
 
 abbrev pub overlap_network : List Factor → List BlockedValue → List BlockedValue → NetworkValue
-overlap_network fs conjugates ket = network_of fs (overlap_members conjugates ket) None
+overlap_network fs conjugates ket = network_of fs (overlap_members conjugates ket) None []
 
 -- the network of an expectation: the conjugates of the bra's tensors, from the last site to the first, then the operator's tensors, and then the ket's
 
@@ -151,7 +151,7 @@ expect_members conjugates op ket =
     ++ with_labels (state_labels expect_lower expect_ket (length ket)) 0 ket)
 
 abbrev pub expect_network : List Factor → List BlockedValue → List BlockedValue → List BlockedValue → NetworkValue
-expect_network fs conjugates op ket = network_of fs (expect_members conjugates op ket) None
+expect_network fs conjugates op ket = network_of fs (expect_members conjugates op ket) None []
 
 -- the network is that of the overlap of bra and ket
 abbrev pub IsOverlapNetwork : List Factor → List BlockedValue → List BlockedValue → NetworkValue → Type 0

@@ -84,7 +84,7 @@ network_with fs order ds =
 
 -- a network of tensors has one text
 pub text_told : (fs : List Factor) (labels : ℕ → List ℤ) (ts : List BlockedValue) (text : List ℕ) → All IsBlocked ts
-    → IsTextOf (network_of fs (with_labels labels 0 ts) None) text → text ≡ line_of (network_data fs (network_of fs (with_labels labels 0 ts) None).order (with_labels labels 0 ts))
+    → IsTextOf (network_of fs (with_labels labels 0 ts) None []) text → text ≡ line_of (network_data fs (network_of fs (with_labels labels 0 ts) None []).order (with_labels labels 0 ts) [])
 text_told fs labels ts text k w =
     let same = same_members labels 0 ts w.members w.held k w.are in
-    w.is ∙ ap (λ ds. line_of (network_with fs (network_of fs (with_labels labels 0 ts) None).order ds)) same
+    w.is ∙ ap (λ ds. line_of (network_with fs (network_of fs (with_labels labels 0 ts) None []).order ds)) same

@@ -19,13 +19,13 @@ use Rattle.qn_cli.proofs.Automata.{tensors_are, chain_blocked}
 use Rattle.qn_cli.proofs.OneText.{text_told}
 
 abbrev text_with : List Factor → List BlockedValue → List ℕ
-text_with fs ts = line_of (network_data fs (operator_network fs ts).order (operator_members ts))
+text_with fs ts = line_of (network_data fs (operator_network fs ts).order (operator_members ts) [])
 
 told_text : (fs : List Factor) (ts : List BlockedValue) (text : List ℕ) → All IsBlocked ts → IsTextOf (operator_network fs ts) text → text ≡ text_with fs ts
 told_text fs ts text k w = text_told fs (operator_labels own_upper (own_lower (length ts - 1)) own_link (length ts)) ts text k w
 
 chain_is : (v : SumValue) (c : ChainValue) → IsBuilt v c → chain_network c ≡ operator_network v.group c.tensors
-chain_is v c b = ap (λ (k : ChainKind). network_of c.group (members_of_kind k c.tensors) None) b.on.kind ∙ ap (λ fs. operator_network fs c.tensors) b.on.group
+chain_is v c b = ap (λ (k : ChainKind). network_of c.group (members_of_kind k c.tensors) None []) b.on.kind ∙ ap (λ fs. operator_network fs c.tensors) b.on.group
 
 pub built_text : (v : SumValue) (c : ChainValue) (text : List ℕ) → IsHeld c → IsBuilt v c → IsTextOf (chain_network c) text → text ≡ operator_text v
 built_text v c text h b w =

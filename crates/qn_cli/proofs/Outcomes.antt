@@ -13,7 +13,7 @@ use Rattle.qn_parts.specs.Faults.{fault}
 use Rattle.qn_json.specs.Tree.{tree_of}
 use Rattle.qn_parts.specs.TensorTexts.{tensor_text}
 use Rattle.qn_doc.specs.LabelFaults.{placed}
-use Rattle.qn_doc.specs.Networks.{IsLabelFault, bytes_fault, members_of, order_of}
+use Rattle.qn_doc.specs.Networks.{IsLabelFault, bytes_fault, members_of, order_of, twist_of}
 use Rattle.qn_texts.specs.PlanTexts.{plan_text}
 use Rattle.qn_words.specs.declared.words.Job.{Job}
 use Rattle.qn_words.specs.declared.words.Job.TheVariants.{Contract, Plan, Mpo, Overlap, Expect, Gen}
@@ -44,11 +44,11 @@ one_network bytes m n p q = both (tree_of bytes) p.network q.network (λ d a b. 
 
 no_bytes_fault : (bytes : List ℕ) (net : NetworkValue) (f : Fault) → IsNetworkIn bytes net → IsBytesFault bytes f → ⊥
 no_bytes_fault bytes net f p (inl e) = none_some (bytes_fault bytes) f p.faultless e
-no_bytes_fault bytes net f p (inr q) = both (tree_of bytes) p.network q.1 (λ d a b. no_fault (members_of d) (order_of d) b.0 (caused b.0 f b.1) a.faultless b.2)
+no_bytes_fault bytes net f p (inr q) = both (tree_of bytes) p.network q.1 (λ d a b. no_fault (members_of d) (order_of d) (twist_of d) b.0 (caused b.0 f b.1) a.faultless b.2)
 
 same_label_fault : (d : Data) (f g : Fault) → IsLabelFault d f → IsLabelFault d g → f ≡ g
 same_label_fault d f g a b =
-    let same : a.0 ≡ b.0 = one_fault (members_of d) (order_of d) a.0 b.0 (caused a.0 f a.1) (caused b.0 g b.1) a.2 b.2 in
+    let same : a.0 ≡ b.0 = one_fault (members_of d) (order_of d) (twist_of d) a.0 b.0 (caused a.0 f a.1) (caused b.0 g b.1) a.2 b.2 in
     some_same f g (sym a.1 ∙ (ap placed same ∙ b.1))
 
 one_bytes_fault : (bytes : List ℕ) (f g : Fault) → IsBytesFault bytes f → IsBytesFault bytes g → f ≡ g

@@ -107,7 +107,7 @@ expect_positive cs op ket =
     (with_positive (state_labels expect_lower expect_ket (length ket)) (state_positive expect_lower expect_ket (λ j. above (5 * j + 2) (omega arith)) (λ j. above (5 * j + 5) (omega arith)) (length ket)) 0 ket))
 
 -- a network whose labels are all positive has no open leg
-closed : (fs : List Factor) (ms : List LabelledMember) → All HasPositive ms → open_count (ends (legs_of (network_of fs ms None))) ≡ 0
+closed : (fs : List Factor) (ms : List LabelledMember) → All HasPositive ms → open_count (ends (legs_of (network_of fs ms None []))) ≡ 0
 closed fs ms h = shut_members ms h
 
 -- ---- the value as a tensor

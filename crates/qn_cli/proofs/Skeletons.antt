@@ -47,7 +47,7 @@ members_told [] = refl
 members_told (m ∷ ms) = ap (λ (ks : List Member). seen m ∷ ks) (members_told ms)
 
 -- networks of members that are seen alike
-same_seen : (fs : List Factor) (ms ns : List LabelledMember) → map slots_here ms ≡ map slots_here ns → map seen ms ≡ map seen ns → AreSameButEntries (network_of fs ms None) (network_of fs ns None)
+same_seen : (fs : List Factor) (ms ns : List LabelledMember) → map slots_here ms ≡ map slots_here ns → map seen ms ≡ map seen ns → AreSameButEntries (network_of fs ms None []) (network_of fs ns None [])
 same_seen fs ms ns e f = record {
   group = refl;
   order = ap (λ (ss : List Slot). positives (ends ss)) (slots_told ms ∙ (ap together e ∙ sym (slots_told ns)));

@@ -65,7 +65,7 @@ HasElementsIn bytes = (v : SumValue) → IsSumIn bytes v → HasElements v
 
 -- the text of the automaton's network
 abbrev pub operator_text : SumValue → List ℕ
-operator_text v = line_of (network_data v.group (operator_network v.group (automaton v)).order (operator_members (automaton v)))
+operator_text v = line_of (network_data v.group (operator_network v.group (automaton v)).order (operator_members (automaton v)) [])
 
 -- the network of the automaton of the operator sum that the bytes say, or their first fault, or the first site at which the build passes
 abbrev pub Writes : List ℕ → Outcome → Type 0

@@ -1,5 +1,5 @@
--- Members whose labels are well formed, with an order of these, have no fault of labels, arrows, sectors or order.
-use Rattle.std.proofs.Common.{◌≡◌, ◌≢◌, ◌≤◌, ◌<◌, ℕ, zero, suc, ◌+◌, ℤ, pos, negsuc, Bool, true, false, not, ◌&&◌, ◌||◌, Some, List, [], ◌∷◌, length, take, get_or, refl, sym, ◌∙◌, ap, ap₂, ◌⊎◌, inl, inr, int_eq, arith}
+-- Members whose labels are well formed, with an order of these and twisted ones among them, have no fault of labels, arrows, sectors, order or twisted labels.
+use Rattle.std.proofs.Common.{◌≡◌, ◌≢◌, ◌≤◌, ◌<◌, ℕ, zero, suc, ◌+◌, ℤ, pos, negsuc, Bool, true, false, not, ◌&&◌, ◌||◌, Some, List, [], ◌∷◌, length, take, get_or, refl, sym, ◌∙◌, ap, ap₂, ◌⊎◌, inl, inr, int_eq, int_lt, arith}
 use Rattle.std.specs.List.{All, Contains}
 use Rattle.std.proofs.lemmas.Bool.{false≢true, or_cases, and_parts}
 use Rattle.qn_sign.specs.Sign.{is_in, IsDistinct}
@@ -11,7 +11,7 @@ use Rattle.qn_value.proofs.Sums.{label_test}
 use Rattle.qn_value.proofs.NetLaws.{end_test}
 use Rattle.qn_net.specs.Members.{LabelledMember, member_tensor, member_at, no_member, slots_of_members, ends_of_members}
 use Rattle.qn_net.specs.NetworkValues.{open_count, IsOrderOf}
-use Rattle.qn_net.specs.Refusals.{label_at, BadArity, BadLabelAt, legs_with, tally, slot_at, IsMiscounted, IsRepeated, HasEqualArrows, HasUnequalSectors, IsGap, IsNoPositive, BadPlaceAt, LacksLabel, HaveLabels, AreLabelled, IsFaultless}
+use Rattle.qn_net.specs.Refusals.{label_at, BadArity, BadLabelAt, legs_with, tally, slot_at, IsMiscounted, IsRepeated, HasEqualArrows, HasUnequalSectors, IsGap, IsNoPositive, IsNotAbove, BadPlaceAt, LacksLabel, HaveLabels, AreLabelled, AreGoodTwists, IsFaultless}
 use Rattle.qn_net.proofs.TableLemmas.{legs_are_ends}
 use Rattle.qn_net.proofs.LineLemmas.{none_zero}
 use Rattle.qn_net.proofs.LabelledLemmas.{have_labels}
@@ -92,8 +92,9 @@ have_from ms h k i b = go b.1
 
 -- ---- all together
 
-module _ (ms : List LabelledMember) (order : List ℤ) (have : HaveLabels ms) (w : IsWellLabelled (ends_of_members ms) (open_count (ends_of_members ms))) (uniform : IsUniform (slots_of_members ms))
-    (o : IsOrderOf (ends_of_members ms) order) where
+module _ (ms : List LabelledMember) (order twist : List ℤ) (have : HaveLabels ms) (w : IsWellLabelled (ends_of_members ms) (open_count (ends_of_members ms))) (uniform : IsUniform (slots_of_members ms))
+    (o : IsOrderOf (ends_of_members ms) order) (inside : (l : ℤ) → is_in int_eq l twist ≡ true → is_in int_eq l order ≡ true)
+    (ascending : (i : ℕ) → suc i < length twist → int_lt (label_at twist i) (label_at twist (suc i)) ≡ true) where
   abbrev es : List End
   es = ends_of_members ms
 
@@ -186,19 +187,31 @@ module _ (ms : List LabelledMember) (order : List ℤ) (have : HaveLabels ms) (w
   labelled : AreLabelled ms
   labelled = ((((have, counted, repeated), arrows), sectors), gaps)
 
-  places : HasNone (BadPlaceAt es order)
-  places i b = go b.1
+  -- a label of the order stands
+  stands : (l : ℤ) → is_in int_eq l order ≡ true → IsNoPositive es l → ⊥
+  stands l i = none l parts.0 parts.1
     where
-      parts : (is_positive (label_at order i) ≡ true) × (is_in same_end (end (label_at order i) true) es ≡ true)
-      parts = and_parts (is_positive (label_at order i)) (is_in same_end (end (label_at order i) true) es) (sym (o.positive (label_at order i)) ∙ stands_in order i b.0)
+      parts : (is_positive l ≡ true) × (is_in same_end (end l true) es ≡ true)
+      parts = and_parts (is_positive l) (is_in same_end (end l true) es) (sym (o.positive l) ∙ i)
 
       none : (l : ℤ) → is_positive l ≡ true → is_in same_end (end l true) es ≡ true → IsNoPositive es l → ⊥
       none (pos n) p q z = let t = in_stands (end (pos n) true) es q in let s = legs_are_ends (pos n) es in absurd (omega (arith, s, t, z))
       none (negsuc n) p q z = false≢true p
 
+  places : HasNone (BadPlaceAt es order)
+  places i b = go b.1
+    where
       go : IsNoPositive es (label_at order i) ⊎ Contains (take i order) (label_at order i) → ⊥
-      go (inl z) = none (label_at order i) parts.0 parts.1 z
+      go (inl z) = stands (label_at order i) (stands_in order i b.0) z
       go (inr c) = not_before order o.distinct i b.0 c
+
+  twisted : AreGoodTwists es twist
+  twisted i b = go i b.0 b.1
+    where
+      go : (i : ℕ) → i < length twist → IsNoPositive es (label_at twist i) ⊎ IsNotAbove twist i → ⊥
+      go i l (inl z) = stands (label_at twist i) (inside (label_at twist i) (stands_in twist i l)) z
+      go zero l (inr n) = n
+      go (suc i) l (inr n) = false≢true (sym n ∙ ascending i l)
 
   complete : LacksLabel es order → ⊥
   complete k = k.2 (in_contains order (pos k.0) (o.positive (pos k.0) ∙ ap₂ (λ a b. a && b) (positive k.0 k.1) (inward k.0 k.1)))
@@ -214,5 +227,5 @@ module _ (ms : List LabelledMember) (order : List ℤ) (have : HaveLabels ms) (w
           go true p = p
           go false p = let z = absent (end (pos n) true) es p in let s = legs_are_ends (pos n) es in let b = both n in absurd (omega (arith, s, z, b, h))
 
-  pub good : IsFaultless ms (Some order)
-  good = (labelled, (places, complete))
+  pub good : IsFaultless ms (Some order) twist
+  good = (labelled, (places, complete), twisted)

@@ -5,6 +5,7 @@ pub mod Loops
 pub mod Widths
 pub mod Wanting
 pub mod TextForms
+pub mod Twisted
 pub mod Written
 pub mod NumbersBack
 pub mod GroupsBack

@@ -1,4 +1,4 @@
--- The text of a network means its members, its labels and its order.
+-- The text of a network means its members, its labels, its order and its twisted labels.
 use Rattle.std.proofs.Common.{◌≡◌, ℕ, zero, suc, ◌≤◌, ◌<◌, ℤ, List, [], ◌∷◌, length, map, Bool, true, false, ◌&&◌, ◌||◌, ◌==◌, not, Some, None, refl, sym, ap, ap₂, subst, ◌∙◌, arith}
 use Rattle.std.specs.Prelude.{nat_lt, unwrap_or, codes}
 use Rattle.std.specs.Option.{option_map_or}
@@ -27,7 +27,7 @@ use Rattle.qn_parts.specs.TensorTexts.{factor_data, leg_data}
 use Rattle.qn_parts.specs.Documents.{group_data, factors_of}
 use Rattle.qn_doc.specs.Combiners.{is_combiner, is_split, combiner_of, has_fused_leg, table_legs, table_fault, combiner_fault, IsTable}
 use Rattle.qn_doc.specs.Members.{is_member, numbers_of, member_value_of, labelled_of, member_fault}
-use Rattle.qn_doc.specs.Networks.{is_network_document, members_data, members_of, order_of, count_fault, head_fault, members_fault, parts_fault}
+use Rattle.qn_doc.specs.Networks.{is_network_document, members_data, members_of, order_of, has_twist, twist_of, count_fault, head_fault, members_fault, parts_fault}
 use Rattle.qn_doc.specs.NetworkTexts.{labels_data, own_data, combine_data, labelled_data, member_data, network_data}
 use Rattle.qn_doc.specs.TensorsReadBack.{canonical}
 use Rattle.qn_doc.specs.NetworksReadBack.{IsNumber, IsPrintableValue, IsPrintableMember, IsPrintableNetwork, canonical_value, canonical_member, NetworkReadsBack}
@@ -160,9 +160,19 @@ members_back fs (m ∷ ns) few all =
 
 -- ---- networks
 
-module _ (fs : List Factor) (order : List ℤ) (ms : List LabelledMember) (h : IsPrintableNetwork fs order ms) where
+-- the twisted labels
+
+has_twist_back : (fs : List Factor) (order : List ℤ) (ms : List LabelledMember) (twist : List ℤ) → All IsNumber twist → has_twist (network_data fs order ms twist) ≡ true
+has_twist_back fs order ms [] h = refl
+has_twist_back fs order ms (l ∷ ls) h = are_labels_back (l ∷ ls) h
+
+twist_back : (fs : List Factor) (order : List ℤ) (ms : List LabelledMember) (twist : List ℤ) → All IsNumber twist → twist_of (network_data fs order ms twist) ≡ twist
+twist_back fs order ms [] h = refl
+twist_back fs order ms (l ∷ ls) h = labels_back (l ∷ ls) h
+
+module _ (fs : List Factor) (order : List ℤ) (ms : List LabelledMember) (twist : List ℤ) (h : IsPrintableNetwork fs order ms twist) where
   abbrev net : Data
-  net = network_data fs order ms
+  net = network_data fs order ms twist
 
   group_is : group_data net ≡ map factor_data fs
   group_is = items_back (map factor_data fs)
@@ -182,7 +192,7 @@ module _ (fs : List Factor) (order : List ℤ) (ms : List LabelledMember) (h : I
 
   document : is_network_document net ≡ true
   unfolding is_network_document
-  document = ap₂ (λ a b. a && b) (is_group_back fs h.group) (ap₂ (λ a b. a && b) are_members (are_labels_back order h.ordered))
+  document = ap₂ (λ a b. a && b) (is_group_back fs h.group) (ap₂ (λ a b. a && b) are_members (ap₂ (λ a b. a && b) (are_labels_back order h.ordered) (has_twist_back fs order ms twist h.twisted)))
 
   counted : count_fault net ≡ None
   counted = ap (λ b. fault_if b (fault 7 0 0 0)) (out (length (members_data net)) (omega (arith, ap length members_is, length-map ms member_data, h.some)) (omega (arith, ap length members_is, length-map ms member_data, h.few)))
@@ -208,8 +218,8 @@ module _ (fs : List Factor) (order : List ℤ) (ms : List LabelledMember) (h : I
       ap (λ g. map (labelled_of g) (members_data net)) factors_is
       ∙ (ap (map (labelled_of fs)) members_is ∙ members_back fs ms h.factors h.members)
 
-  pub network_back : (parts_fault net ≡ None) × (factors_of net ≡ fs) × (members_of net ≡ map canonical_member ms) × (order_of net ≡ Some order)
-  network_back = (none_then (head_fault net) (members_fault net) head_sound members_sound, factors_is, members_mean, ap Some (labels_back order h.ordered))
+  pub network_back : (parts_fault net ≡ None) × (factors_of net ≡ fs) × (members_of net ≡ map canonical_member ms) × (order_of net ≡ Some order) × (twist_of net ≡ twist)
+  network_back = (none_then (head_fault net) (members_fault net) head_sound members_sound, factors_is, members_mean, ap Some (labels_back order h.ordered), twist_back fs order ms twist h.twisted)
 
 pub networks_read_back : NetworkReadsBack
-networks_read_back fs order ms h = network_back fs order ms h
+networks_read_back fs order ms twist h = network_back fs order ms twist h

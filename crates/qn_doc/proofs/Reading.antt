@@ -15,7 +15,7 @@ use Rattle.qn_doc.specs.Members.{IsInNetwork}
 use Rattle.qn_net.specs.NetworkValues.{NetworkValue}
 use Rattle.qn_net.specs.Refusals.{IsFaultless, network_of}
 use Rattle.qn_parts.specs.Documents.{factors_of}
-use Rattle.qn_doc.specs.Networks.{FailsBy, members_of, order_of, IsNetworkOf}
+use Rattle.qn_doc.specs.Networks.{FailsBy, members_of, order_of, twist_of, IsNetworkOf}
 use Rattle.qn_parts.proofs.BlockWalk.{or_first}
 
 -- a fault of the parts
@@ -34,11 +34,11 @@ fails_then None b Later e is h = h
 fails_then (Some x) b Later e is h = cc
 
 -- members without a fault are the network that is meant
-pub network_means : (d : Data) (fs : List Factor) (ms : List LabelledMember) (o : Option (List ℤ)) (n : NetworkValue) → fs ≡ factors_of d → ms ≡ members_of d → o ≡ order_of d
-    → n ≡ network_of fs ms o → IsFaultless ms o → IsNetworkOf d n
-network_means d fs ms o n a b c is h = record {
-  is = is ∙ (ap (λ x. network_of x ms o) a ∙ (ap (λ x. network_of (factors_of d) x o) b ∙ ap (λ x. network_of (factors_of d) (members_of d) x) c));
-  faultless = subst (λ x. IsFaultless (members_of d) x) c (subst (λ x. IsFaultless x o) b h);
+pub network_means : (d : Data) (fs : List Factor) (ms : List LabelledMember) (o : Option (List ℤ)) (tw : List ℤ) (n : NetworkValue) → fs ≡ factors_of d → ms ≡ members_of d → o ≡ order_of d → tw ≡ twist_of d
+    → n ≡ network_of fs ms o tw → IsFaultless ms o tw → IsNetworkOf d n
+network_means d fs ms o tw n a b c t is h = record {
+  is = is ∙ (λ i. network_of (a i) (b i) (c i) (t i));
+  faultless = subst (IsFaultless (members_of d) (order_of d)) t (subst (λ x. IsFaultless (members_of d) x tw) c (subst (λ x. IsFaultless x o tw) b h));
 }
 
 member_in : (fs : List Factor) (m : LabelledMember) → IsInNetwork fs m → IsMemberOf fs m

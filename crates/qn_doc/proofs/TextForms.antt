@@ -1,5 +1,5 @@
 -- The text of a network nests to a fixed depth.
-use Rattle.std.proofs.Common.{ℕ, ◌≤◌, ℤ, List, map, filter, arith}
+use Rattle.std.proofs.Common.{ℕ, ◌≤◌, ℤ, List, [], ◌∷◌, map, filter, arith}
 use Rattle.std.specs.Prelude.{codes}
 use Rattle.serde_json.specs.Data.{depth, items_depth}
 use Rattle.serde_json.specs.View.{items_of}
@@ -26,5 +26,7 @@ placed_deep (own t) ls =
 placed_deep (fuse c) ls = table_deep c (codes "fuse") ls
 placed_deep (split c) ls = table_deep c (codes "split") ls
 
-pub shallow : (fs : List Factor) (order : List ℤ) (ms : List LabelledMember) → depth (network_data fs order ms) ≤ max_depth
-shallow fs order ms = omega (arith, depths.deep factor_data 1 depths.factor fs, flat order, depths.deep member_data 7 (λ m. placed_deep m.member m.labels) ms)
+pub shallow : (fs : List Factor) (order : List ℤ) (ms : List LabelledMember) (twist : List ℤ) → depth (network_data fs order ms twist) ≤ max_depth
+shallow fs order ms [] = omega (arith, depths.deep factor_data 1 depths.factor fs, flat order, depths.deep member_data 7 (λ m. placed_deep m.member m.labels) ms)
+shallow fs order ms (l ∷ ls) =
+    omega (arith, depths.deep factor_data 1 depths.factor fs, flat order, depths.deep member_data 7 (λ m. placed_deep m.member m.labels) ms, flat (l ∷ ls))

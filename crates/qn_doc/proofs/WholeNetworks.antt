@@ -23,7 +23,7 @@ use Rattle.qn_parts.specs.Faults.{fault, fault_if}
 use Rattle.qn_parts.specs.Documents.{factors_of}
 use Rattle.qn_doc.specs.declared.networks.AnyNet.{AnyNet}
 use Rattle.qn_doc.specs.LabelFaults.{placed}
-use Rattle.qn_doc.specs.Networks.{members_of, order_of, parts_fault, IsLabelFault, IsNetworkOf, ReadsBy, any_network, bytes_fault, IsLabelFaultIn, IsNetworkIn}
+use Rattle.qn_doc.specs.Networks.{members_of, order_of, twist_of, parts_fault, IsLabelFault, IsNetworkOf, ReadsBy, any_network, bytes_fault, IsLabelFaultIn, IsNetworkIn}
 use Rattle.qn_doc.specs.NetworkTexts.{network_data}
 use Rattle.qn_doc.specs.NetworksReadBack.{IsPrintableMember, IsPrintableValue, canonical_value, canonical_member, HasLabels, IsSameTensor, IsSameMember, AreSameMembers, IsSameNetwork, IsDocumentOf, GivesBack, NetworkTextReadsBack}
 use Rattle.qn_doc.proofs.TensorsBack.{none_then}
@@ -79,25 +79,26 @@ module _ (net : NetworkValue) (text : List ℕ) (h : IsDocumentOf net text) wher
   ns = map canonical_member ms
 
   abbrev d : Data
-  d = network_data net.group net.order ms
+  d = network_data net.group net.order ms net.twists
 
-  back : (parts_fault d ≡ None) × (factors_of d ≡ net.group) × (members_of d ≡ ns) × (order_of d ≡ Some net.order)
-  back = network_back net.group net.order ms h.printable
+  back : (parts_fault d ≡ None) × (factors_of d ≡ net.group) × (members_of d ≡ ns) × (order_of d ≡ Some net.order) × (twist_of d ≡ net.twists)
+  back = network_back net.group net.order ms net.twists h.printable
 
   -- the legs of the network with their labels
   legs_are : legs_of net ≡ slots_of_members ns
   legs_are = ap (λ ps. slots (map (λ (m : PlacedMember). m.placed) ps)) (sym h.written.are) ∙ same_slots ms
 
-  faultless : IsFaultless ns (Some net.order)
+  faultless : IsFaultless ns (Some net.order) net.twists
   faultless =
-      good ns net.order
+      good ns net.order net.twists
       (have_from ns (same_arity net.group ms (subst (λ ps. AllPlaced net.group (map (λ (m : PlacedMember). m.placed) ps)) (sym h.written.are) h.network.placed)) (same_labels ms h.labels))
       (subst (λ ss. IsWellLabelled (ends ss) (open_count (ends ss))) legs_are h.network.labelled)
       (subst IsUniform legs_are h.network.uniform)
       (subst (λ ss. IsOrderOf (ends ss) net.order) legs_are h.network.order)
+      h.network.twists h.network.ascending
 
-  means_faultless : IsFaultless (members_of d) (order_of d)
-  means_faultless = subst (λ ks. IsFaultless ks (order_of d)) (sym back.2) (subst (λ o. IsFaultless ns o) (sym back.3) faultless)
+  means_faultless : IsFaultless (members_of d) (order_of d) (twist_of d)
+  means_faultless = subst (λ ks. IsFaultless ks (order_of d) (twist_of d)) (sym back.2) (subst (λ o. IsFaultless ns o (twist_of d)) (sym back.3) (subst (IsFaultless ns (Some net.order)) (sym back.4) faultless))
 
   no_parts_fault : bytes_fault text ≡ None
   no_parts_fault =
@@ -114,21 +115,18 @@ module _ (net : NetworkValue) (text : List ℕ) (h : IsDocumentOf net text) wher
           none r = cc
 
       go : IsLabelFault d f → ⊥
-      go k = no_fault (members_of d) (order_of d) k.0 (no_memory k.0 k.1) means_faultless k.2
+      go k = no_fault (members_of d) (order_of d) (twist_of d) k.0 (no_memory k.0 k.1) means_faultless k.2
 
   is_same : (n : NetworkValue) → IsNetworkOf d n → IsSameNetwork n net
   is_same n k = record {
     group = ap (λ (v : NetworkValue). v.group) is;
     members = subst (λ ps. AreSameMembers ps net.members) (sym (ap (λ (v : NetworkValue). v.members) is)) (subst (AreSameMembers (map placed_member ns)) h.written.are (same_members net.group ms h.printable.members));
     order = ap (λ (v : NetworkValue). v.order) is;
-    twists = ap (λ (v : NetworkValue). v.twists) is ∙ sym h.untwisted;
+    twists = ap (λ (v : NetworkValue). v.twists) is;
   }
     where
-      is : n ≡ network_of net.group ns (Some net.order)
-      is =
-          k.is
-          ∙ (ap (λ fs. network_of fs (members_of d) (order_of d)) back.1
-          ∙ (ap (λ ks. network_of net.group ks (order_of d)) back.2 ∙ ap (network_of net.group ns) back.3))
+      is : n ≡ network_of net.group ns (Some net.order) net.twists
+      is = k.is ∙ (λ i. network_of (back.1 i) (back.2 i) (back.3 i) (back.4 i))
 
   gives_back : (answer : Result AnyNet DocFault) → ReadsBy (bytes_fault text) (IsLabelFaultIn text) (IsNetworkIn text) answer → GivesBack net answer
   gives_back (Ok any) r = is_same (any_network any) (subst (λ o. IsSomeAnd o (λ k. IsNetworkOf k (any_network any))) h.written.tree r.1)

@@ -47,7 +47,7 @@ printable = record {
 some : pos 1 ≢ pos 0
 some e = cc
 
-document : IsPrintableNetwork fermions (pos 1 ∷ []) (worked_member ∷ [])
+document : IsPrintableNetwork fermions (pos 1 ∷ []) (worked_member ∷ []) []
 document = record {
   group = (tt, tt);
   factors = omega arith;
@@ -55,12 +55,13 @@ document = record {
   few = omega arith;
   members = all_one (IsPrintableMember fermions) worked_member (record { value = (refl, printable); labels = all_two IsNumber (pos 1) (pos 1) (omega arith) (omega arith) });
   ordered = all_one IsNumber (pos 1) (omega arith);
+  twisted = All-nil IsNumber;
 }
 
 labels : All HasLabels (worked_member ∷ [])
 labels = all_one HasLabels worked_member (all_two IsLabel (pos 1) (pos 1) (some, omega arith) (some, omega arith))
 
-tree : tree_of worked_text ≡ Some (network_data fermions (pos 1 ∷ []) (worked_member ∷ []))
+tree : tree_of worked_text ≡ Some (network_data fermions (pos 1 ∷ []) (worked_member ∷ []) [])
 unfolding serde_json_on_literals is_utf8 chars digits
 tree = refl
 
@@ -71,7 +72,6 @@ long = refl
 pub worked : IsDocumentOf trace_alone worked_text
 worked = record {
   network = well_formed;
-  untwisted = refl;
   written = record { members = worked_member ∷ []; held = all_one (λ (m : LabelledMember). IsHeld m.member) worked_member printable.blocked; are = refl; is = refl; tree = tree };
   printable = document;
   labels = labels;

@@ -1,7 +1,10 @@
 -- The text of a network: compact JSON, the keys of each object ascending. Blocks that are all zeros are left out.
-use Rattle.std.specs.Prelude.{◌≡◌, ℕ, ℤ, List, map, filter, codes, Some}
+use Rattle.std.specs.Prelude.{◌≡◌, ℕ, ℤ, List, [], ◌∷◌, ◌++◌, map, filter, codes, Some}
 use Rattle.std.specs.List.{All}
-use Rattle.serde_json.specs.Data.{Data, string, object, member, no_members}
+use Rattle.json.specs.Tree.{members_tokens}
+use Rattle.json.specs.Written.{Written}
+use Rattle.serde_json.specs.Data.{Data, Members, string, object, member, no_members}
+use Rattle.serde_json.specs.Written.{members_outline}
 use Rattle.qn_charge.specs.declared.factor.Factor.{Factor}
 use Rattle.qn_block.specs.Blocked.{BlockedValue, is_filled}
 use Rattle.qn_block.specs.Combiners.{CombinerValue}
@@ -44,18 +47,28 @@ labelled_data (split c) ls = table_data c (codes "split") ls
 abbrev pub member_data : LabelledMember → Data
 member_data m = labelled_data m.member m.labels
 
--- {"group":group,"order":[whole,..],"tensors":[member,..]}
-abbrev pub network_data : List Factor → List ℤ → List LabelledMember → Data
-network_data fs order ms =
+-- "twist":[whole,..], where some labels are twisted
+abbrev pub twist_members : List ℤ → Members
+twist_members [] = no_members
+twist_members (l ∷ ls) = member (codes "twist") (labels_data (l ∷ ls)) no_members
+
+-- {"group":group,"order":[whole,..],"tensors":[member,..]}, and where some labels are twisted "twist":[whole,..] behind these
+abbrev pub network_data : List Factor → List ℤ → List LabelledMember → List ℤ → Data
+network_data fs order ms twist =
     object
     (member (codes "group") (list_data (map factor_data fs))
     (member (codes "order") (labels_data order)
-    (member (codes "tensors") (list_data (map member_data ms)) no_members)))
+    (member (codes "tensors") (list_data (map member_data ms)) (twist_members twist))))
+
+-- the members of an object that are left, with its closing bracket, stand behind what was written before
+pub record Closes (left : Members) (old new : Written) : Type 0 where
+  pub tokens : new.tokens ≡ old.tokens ++ members_tokens (members_outline left)
+  pub before : new.before ≡ old.before
 
 -- the text of the network whose members these are, as they are held, which is read as the tree that it was written from
 pub record IsTextOf (net : NetworkValue) (text : List ℕ) : Type 0 where
   pub members : List LabelledMember
   pub held : All (λ (m : LabelledMember). IsHeld m.member) members
   pub are : map placed_member members ≡ net.members
-  pub is : text ≡ line_of (network_data net.group net.order members)
-  pub tree : tree_of text ≡ Some (network_data net.group net.order members)
+  pub is : text ≡ line_of (network_data net.group net.order members net.twists)
+  pub tree : tree_of text ≡ Some (network_data net.group net.order members net.twists)

@@ -1,6 +1,6 @@
 -- A network in a document: its form, its first fault, and what it stands for.
 -- Source: NCON, arXiv:1402.0939.
-use Rattle.std.specs.Prelude.{◌≡◌, ◌⊎◌, ◌<◌, ◌≤◌, ℕ, ℤ, List, length, map, Bool, true, not, ◌&&◌, ◌||◌, ◌==◌, nat_lt, Option, Some, None, option_map, unwrap_or, codes, Result, Ok, Err}
+use Rattle.std.specs.Prelude.{◌≡◌, ◌⊎◌, ◌<◌, ◌≤◌, ℕ, ℤ, List, [], length, map, Bool, true, not, ◌&&◌, ◌||◌, ◌==◌, nat_lt, Option, Some, None, option_map, unwrap_or, codes, Result, Ok, Err}
 use Rattle.std.specs.Option.{IsSomeAnd}
 use Rattle.serde_json.specs.Data.{Data}
 use Rattle.serde_json.specs.Find.{get}
@@ -27,10 +27,14 @@ use Rattle.qn_doc.specs.declared.networks.AnyNet.TheVariants.{N0, N1, N2, N3, N4
 abbrev pub has_order : Data → Bool
 has_order d = unwrap_or (option_map are_numbers (get (codes "order") d)) true
 
--- {"group":group,"tensors":[member,..]}, and where wanted "order":[whole,..]
+-- no label is said to be twisted, or it is a list of whole numbers that says which are
+abbrev pub has_twist : Data → Bool
+has_twist d = unwrap_or (option_map are_numbers (get (codes "twist") d)) true
+
+-- {"group":group,"tensors":[member,..]}, and where wanted "order":[whole,..] and "twist":[whole,..]
 unfoldable pub is_network_document : Data → Bool
 is_network_document d =
-    has_version d && (has is_group (get (codes "group") d) && (has (is_list (is_member (length (group_data d)))) (get (codes "tensors") d) && has_order d))
+    has_version d && (has is_group (get (codes "group") d) && (has (is_list (is_member (length (group_data d)))) (get (codes "tensors") d) && (has_order d && has_twist d)))
 
 -- ---- what it stands for
 
@@ -45,10 +49,14 @@ members_of d = map (labelled_of (factors_of d)) (members_data d)
 abbrev pub order_of : Data → Option (List ℤ)
 order_of d = option_map numbers_of (get (codes "order") d)
 
--- the network that the tree means: its members have no fault of labels, arrows, sectors or order
+-- the twisted labels, none where none are given
+abbrev pub twist_of : Data → List ℤ
+twist_of d = unwrap_or (option_map numbers_of (get (codes "twist") d)) []
+
+-- the network that the tree means: its members have no fault of labels, arrows, sectors, order or twisted labels
 pub record IsNetworkOf (d : Data) (net : NetworkValue) : Type 0 where
-  pub is : net ≡ network_of (factors_of d) (members_of d) (order_of d)
-  pub faultless : IsFaultless (members_of d) (order_of d)
+  pub is : net ≡ network_of (factors_of d) (members_of d) (order_of d) (twist_of d)
+  pub faultless : IsFaultless (members_of d) (order_of d) (twist_of d)
 
 -- ---- its first fault
 
@@ -73,13 +81,13 @@ members_fault d = first_of (member_fault (factors_of d)) (members_data d)
 abbrev pub parts_fault : Data → Option Fault
 parts_fault d = head_fault d then members_fault d
 
--- the first fault of the labels and the order
+-- the first fault of the labels, the order and the twisted labels
 abbrev pub IsLabelFault : Data → Fault → Type 0
-IsLabelFault d f = (e : NetFault) × (placed e ≡ Some f) × IsNetFault (members_of d) (order_of d) e
+IsLabelFault d f = (e : NetFault) × (placed e ≡ Some f) × IsNetFault (members_of d) (order_of d) (twist_of d) e
 
 -- ---- what a reader answers
 
--- what an error says: Bad carries the first fault, one of the parts or, where these have none, one of the labels and the order; want of memory is free
+-- what an error says: Bad carries the first fault, one of the parts or, where these have none, one of the labels, the order and the twisted labels; want of memory is free
 abbrev pub FailsBy : Option Fault → (Fault → Type 0) → DocFault → Type 0
 FailsBy first Later (Bad f) = (first ≡ Some f) ⊎ ((first ≡ None) × Later f)
 FailsBy first Later Memory = Unit {0}
@@ -101,7 +109,7 @@ any_network (N4 net) = net
 abbrev pub bytes_fault : List ℕ → Option Fault
 bytes_fault bytes = text_fault parts_fault bytes
 
--- F20 to F26, in the tree of the bytes
+-- F20 to F26 and F36, in the tree of the bytes
 abbrev pub IsLabelFaultIn : List ℕ → Fault → Type 0
 IsLabelFaultIn bytes f = IsSomeAnd (tree_of bytes) (λ d. IsLabelFault d f)
 

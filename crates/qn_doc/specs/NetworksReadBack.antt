@@ -1,4 +1,4 @@
--- What is written is read again: the text of a network means its members, its labels and its order.
+-- What is written is read again: the text of a network means its members, its labels, its order and its twisted labels.
 use Rattle.std.specs.Prelude.{◌≡◌, ◌≤◌, ◌<◌, ◌^◌, ℕ, ℤ, unsigned_abs, true, false, List, [], ◌∷◌, length, map, None, Some, Result, Ok, Err}
 use Rattle.std.specs.List.{All}
 use Rattle.qn_charge.specs.declared.factor.Factor.{Factor}
@@ -14,7 +14,7 @@ use Rattle.qn_parts.specs.declared.fault.DocFault.TheVariants.{Bad, Memory}
 use Rattle.qn_parts.specs.Documents.{factors_of}
 use Rattle.qn_doc.specs.Combiners.{IsTable}
 use Rattle.qn_doc.specs.declared.networks.AnyNet.{AnyNet}
-use Rattle.qn_doc.specs.Networks.{members_of, order_of, parts_fault, ReadsBy, any_network, bytes_fault, IsLabelFaultIn, IsNetworkIn}
+use Rattle.qn_doc.specs.Networks.{members_of, order_of, twist_of, parts_fault, ReadsBy, any_network, bytes_fault, IsLabelFaultIn, IsNetworkIn}
 use Rattle.qn_doc.specs.NetworkTexts.{network_data, IsTextOf}
 use Rattle.qn_doc.specs.TensorsReadBack.{IsPrintable, canonical}
 
@@ -33,13 +33,14 @@ pub record IsPrintableMember (fs : List Factor) (m : LabelledMember) : Type 0 wh
   pub labels : All IsNumber m.labels
 
 -- a network within the limits of a document
-pub record IsPrintableNetwork (fs : List Factor) (order : List ℤ) (ms : List LabelledMember) : Type 0 where
+pub record IsPrintableNetwork (fs : List Factor) (order : List ℤ) (ms : List LabelledMember) (twist : List ℤ) : Type 0 where
   pub group : IsGroup fs
   pub factors : length fs ≤ 4
   pub some : 0 < length ms
   pub few : length ms ≤ 256
   pub members : All (IsPrintableMember fs) ms
   pub ordered : All IsNumber order
+  pub twisted : All IsNumber twist
 
 abbrev pub canonical_value : MemberValue → MemberValue
 canonical_value (own t) = own (canonical t)
@@ -50,13 +51,14 @@ canonical_value (split c) = split c
 abbrev pub canonical_member : LabelledMember → LabelledMember
 canonical_member m = record { member = canonical_value m.member; labels = m.labels }
 
--- the tree of a network's text has no fault up to the labels, and means its group, its order and its members without their blocks of zeros
+-- the tree of a network's text has no fault up to the labels, and means its group, its order, its twisted labels and its members without their blocks of zeros
 abbrev pub NetworkReadsBack : Type 0
-NetworkReadsBack = (fs : List Factor) (order : List ℤ) (ms : List LabelledMember) → IsPrintableNetwork fs order ms →
-    (parts_fault (network_data fs order ms) ≡ None)
-    × (factors_of (network_data fs order ms) ≡ fs)
-    × (members_of (network_data fs order ms) ≡ map canonical_member ms)
-    × (order_of (network_data fs order ms) ≡ Some order)
+NetworkReadsBack = (fs : List Factor) (order : List ℤ) (ms : List LabelledMember) (twist : List ℤ) → IsPrintableNetwork fs order ms twist →
+    (parts_fault (network_data fs order ms twist) ≡ None)
+    × (factors_of (network_data fs order ms twist) ≡ fs)
+    × (members_of (network_data fs order ms twist) ≡ map canonical_member ms)
+    × (order_of (network_data fs order ms twist) ≡ Some order)
+    × (twist_of (network_data fs order ms twist) ≡ twist)
 
 -- ---- the whole text
 
@@ -93,9 +95,8 @@ pub record IsSameNetwork (a b : NetworkValue) : Type 0 where
 -- a text of this network, within the limits of a document: at most 2^26 bytes
 pub record IsDocumentOf (net : NetworkValue) (text : List ℕ) : Type 0 where
   pub network : IsWellFormed net
-  pub untwisted : net.twists ≡ []
   pub written : IsTextOf net text
-  pub printable : IsPrintableNetwork net.group net.order written.members
+  pub printable : IsPrintableNetwork net.group net.order written.members net.twists
   pub labels : All HasLabels written.members
   pub short : length text ≤ 67108864
 

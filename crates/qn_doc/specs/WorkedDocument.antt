@@ -15,4 +15,4 @@ abbrev pub worked_member : LabelledMember
 worked_member = record { member = own worked_matrix; labels = pos 1 ∷ pos 1 ∷ [] }
 
 abbrev pub worked_text : List ℕ
-worked_text = line_of (network_data fermions (pos 1 ∷ []) (worked_member ∷ []))
+worked_text = line_of (network_data fermions (pos 1 ∷ []) (worked_member ∷ []) [])

@@ -13,7 +13,7 @@ pub fn tensors_read_back()
 {}
 
 /// The tree of the text of a network within the limits of a document has no fault before its labels,
-/// and means the network's group, order and members, these without their blocks of zeros. So
+/// and means the network's group, order, twisted labels and members, these without their blocks of zeros. So
 /// `read_network` of what `write_network` writes gives the network, where the text is not too long.
 pub fn networks_read_back()
     ensures tree { NetworkReadsBack }

@@ -11,7 +11,7 @@ ghost use Rattle.qn_json.specs.Forms.{has, is_list, are_numbers};
 ghost use Rattle.qn_parts.specs.Documents.{group_data, factors_of};
 ghost use Rattle.qn_doc.specs.LabelFaults.{label_fault, placed};
 ghost use Rattle.qn_doc.specs.Members.{is_member, member_fault, IsInNetwork};
-ghost use Rattle.qn_doc.specs.Networks.{has_order, is_network_document, members_data, members_of, order_of, head_fault, members_fault, parts_fault, IsCounted, IsLabelFault, IsNetworkOf, ReadsBy, any_network, bytes_fault, IsLabelFaultIn, IsNetworkIn};
+ghost use Rattle.qn_doc.specs.Networks.{has_order, has_twist, is_network_document, members_data, members_of, order_of, twist_of, head_fault, members_fault, parts_fault, IsCounted, IsLabelFault, IsNetworkOf, ReadsBy, any_network, bytes_fault, IsLabelFaultIn, IsNetworkIn};
 
 use crate::members::{are_members, members, numbers};
 use qn_charge::{Factor, Group};
@@ -42,6 +42,15 @@ fn has_order(v: &Value) -> bool
     }
 }
 
+fn has_twist(v: &Value) -> bool
+    ensures { result ≡ has_twist (view v.now) }
+{
+    match v.get("twist") {
+        Some(twist) => are_numbers(twist),
+        None => true,
+    }
+}
+
 #[tactic(auto, using(qn_json::proofs::Lists::views))]
 fn is_member_list(v: &Value, factors: usize) -> bool
     ensures { result ≡ is_list (is_member factors) (view v.now) }
@@ -65,7 +74,11 @@ fn has_members(v: &Value, factors: usize) -> bool
 fn is_network_document(v: &Value) -> bool
     ensures { result ≡ is_network_document (view v.now) }
 {
-    has_version(v) && has_group(v) && has_members(v, factor_count(v)) && has_order(v)
+    has_version(v)
+        && has_group(v)
+        && has_members(v, factor_count(v))
+        && has_order(v)
+        && has_twist(v)
 }
 
 // The order, where one is given.
@@ -75,6 +88,16 @@ fn order(alloc: Global, v: &Value) -> Result<Option<Vec<i64>>, AllocError>
     match v.get("order") {
         Some(order) => Ok(Some(numbers(alloc, items(order))?)),
         None => Ok(None),
+    }
+}
+
+// The twisted labels.
+fn twist(alloc: Global, v: &Value) -> Result<Vec<i64>, AllocError>
+    ensures { IfOk result (λ t. t.items ≡ twist_of (view v.now)) }
+{
+    match v.get("twist") {
+        Some(twist) => numbers(alloc, items(twist)),
+        None => Ok(Vec::new(alloc)),
     }
 }
 
@@ -119,12 +142,12 @@ fn at_leg(tensor: usize, leg: usize) -> DocFault
     }
 }
 
-// F26 at this place of the order.
-fn at_place(place: usize) -> DocFault
-    ensures { Fails result (Some (fault 26 0 0 (place + 1))) }
+// The fault of this code at this place of a list.
+fn at_place(code: u32, place: usize) -> DocFault
+    ensures { Fails result (Some (fault code 0 0 (place + 1))) }
 {
     match place_of(place) {
-        Some(item) => DocFault::Bad(Fault::at(26, 0, 0, item)),
+        Some(item) => DocFault::Bad(Fault::at(code, 0, 0, item)),
         None => DocFault::Memory,
     }
 }
@@ -140,7 +163,8 @@ fn placed(fault: NetFault) -> DocFault
         NetFault::Arrow { label } => DocFault::Bad(at_label(23, label)),
         NetFault::Sectors { label } => DocFault::Bad(at_label(24, label)),
         NetFault::OpenLabels { label } => DocFault::Bad(at_label(25, label)),
-        NetFault::Order { place } => at_place(place),
+        NetFault::Order { place } => at_place(26, place),
+        NetFault::Twist { place } => at_place(36, place),
         NetFault::Memory => DocFault::Memory,
     }
 }
@@ -162,7 +186,7 @@ fn head(alloc: Global, v: &Value) -> Result<Vec<Factor>, DocFault>
     Ok(factors)
 }
 
-// The network of these members and this order, or the first of F20 to F26.
+// The network of these members with the order and the twisted labels, or the first of F20 to F26 and F36.
 #[tactic(auto, using(crate::proofs::Reading::all_in_network))]
 fn joined<const K: usize>(
     alloc: Global,
@@ -177,13 +201,14 @@ fn joined<const K: usize>(
     ensures { ReadsBy None (IsLabelFault (view v.now)) (IsNetworkOf (view v.now)) result }
 {
     let order = order(alloc, v)?;
-    match Network::new(alloc, *group, members, order) {
+    let twist = twist(alloc, v)?;
+    match Network::new(alloc, *group, members, order, twist) {
         Ok(net) => Ok(net),
         Err(fault) => Err(placed(fault)),
     }
 }
 
-// The network over the group of these factors, or the first of F8 to F26.
+// The network over the group of these factors, or the first of F8 to F26 and F36.
 #[tactic(auto, using(crate::proofs::Reading::fails_early))]
 fn network_over<const K: usize>(
     alloc: Global,

@@ -2,9 +2,9 @@
 ghost use Rattle.std.specs.Prelude.{◌≡◌, IfOk, OnOk, List, ℕ, ℤ, map, codes};
 ghost use Rattle.std.specs.List.{All};
 ghost use Rattle.qn_net.specs.Members.{IsHeld};
-ghost use Rattle.qn_json.specs.Appended.{Appends};
+ghost use Rattle.qn_json.specs.Appended.{Appends, IsRead};
 ghost use Rattle.qn_json.specs.Texts.{list_data};
-ghost use Rattle.qn_doc.specs.NetworkTexts.{labels_data, own_data, combine_data, table_data, labelled_data, member_data, network_data, IsTextOf};
+ghost use Rattle.qn_doc.specs.NetworkTexts.{labels_data, own_data, combine_data, table_data, labelled_data, member_data, twist_members, network_data, Closes, IsTextOf};
 
 use json::Writer;
 use qn_block::{BlockTensor, Combiner};
@@ -90,13 +90,27 @@ fn write_members<const K: usize>(
     out.end_array()
 }
 
+// The twisted labels, where there are any, and the closing bracket.
+fn write_twist(out: &mut Writer, twist: &[i64]) -> Result<(), AllocError>
+    ensures closes { OnOk result (Closes (twist_members twist.now) out.old out.new) }
+    ensures read { OnOk result (IsRead (labels_data twist.now)) }
+{
+    if twist.is_empty() {
+        return out.end_object();
+    }
+    out.key("twist")?;
+    write_numbers(out, twist)?;
+    out.end_object()
+}
+
 fn write_parts<const K: usize>(
     out: &mut Writer,
     group: &Group<K>,
     order: &[i64],
     members: &[NetTensor<K>],
+    twist: &[i64],
 ) -> Result<(), AllocError>
-    ensures { OnOk result (Appends (network_data group.now order.now members.now) out.old out.new) }
+    ensures { OnOk result (Appends (network_data group.now order.now members.now twist.now) out.old out.new) }
 {
     out.begin_object()?;
     out.key("group")?;
@@ -105,7 +119,7 @@ fn write_parts<const K: usize>(
     write_numbers(out, order)?;
     out.key("tensors")?;
     write_members(out, members)?;
-    out.end_object()
+    write_twist(out, twist)
 }
 
 /// What holds of each member. Nothing is done.
@@ -118,14 +132,14 @@ fn known_members<const K: usize>(members: &[NetTensor<K>])
 }
 
 /// The text of a network: one line of compact JSON with its newline. Blocks that are all zeros are
-/// left out. A combiner is written as it was given, never as its table.
+/// left out. A combiner is written as it was given, never as its table. Without twisted labels their key is left out.
 pub fn write_network<const K: usize>(alloc: Global, net: &Network<K>) -> Result<Vec<u8>, AllocError>
     ensures { IfOk result (λ bytes. IsTextOf net.now bytes.items) }
 {
     let members = net.tensors();
     known_members(members);
     let mut out = Writer::new(Vec::new(alloc));
-    write_parts(&mut out, net.group(), net.order(), members)?;
+    write_parts(&mut out, net.group(), net.order(), members, net.twist())?;
     let text = finished(out)?;
     Ok(text)
 }

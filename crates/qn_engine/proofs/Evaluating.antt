@@ -1,5 +1,5 @@
 -- The steps of a plan from one place to another.
-use Rattle.std.proofs.Common.{◌≡◌, ◌≤◌, ◌<◌, ℕ, zero, suc, ◌+◌, Some, None, Option, List, [], ◌∷◌, refl, ◌∙◌, ap, subst, map, length, take, drop, get_or, ◌-◌, sym, arith}
+use Rattle.std.proofs.Common.{◌≡◌, ◌≤◌, ◌<◌, ℕ, zero, suc, ◌+◌, ℤ, Some, None, Option, List, [], ◌∷◌, refl, ◌∙◌, ap, subst, map, length, take, drop, get_or, ◌-◌, sym, arith}
 use Rattle.std.specs.List.{sum_by}
 use Rattle.std.proofs.lemmas.List.{length-map, length-drop, get_or-drop, take_all}
 use Rattle.std.proofs.lemmas.List.Sums.{sum_by-append, sum_by-cons}
@@ -29,18 +29,19 @@ never_wide o n e k = cc (e, k)
 
 -- on the way
 
-pub on_next : (net : NetworkValue) (items : List StepValue) (i : ℕ) (s : StepValue) (ps : List PartValue) → IsOnWay net items i ps → i < length items → s ≡ get_or items i s → IsNext net i ps s
-on_next net items i s ps w lt e = record {
+pub on_next : (net : NetworkValue) (items : List StepValue) (tw : List ℤ) (i : ℕ) (s : StepValue) (ps : List PartValue) → IsOnWay net items tw i ps → i < length items → s ≡ get_or items i s → IsNext net i ps s tw
+on_next net items tw i s ps w lt e = record {
   ready = w.ready;
   narrow = w.narrow;
   place = w.place;
   carried = w.carried;
   within = subst (λ n. i < n) (many net items w.is) lt;
   step_is = step_read net items w.is i s lt e;
+  twists = w.twists;
 }
 
-pub on_more : (net : NetworkValue) (items : List StepValue) (i : ℕ) (ps qs : List PartValue) → IsOnWay net items i ps → IsCarried net (i + 1) qs → IsOnWay net items (i + 1) qs
-on_more net items i ps qs w c = record { is = w.is; ready = w.ready; narrow = w.narrow; place = w.place; carried = c }
+pub on_more : (net : NetworkValue) (items : List StepValue) (tw : List ℤ) (i : ℕ) (ps qs : List PartValue) → IsOnWay net items tw i ps → IsCarried net (i + 1) qs → IsOnWay net items tw (i + 1) qs
+on_more net items tw i ps qs w c = record { is = w.is; twists = w.twists; ready = w.ready; narrow = w.narrow; place = w.place; carried = c }
 
 -- what some of the steps of a list cost
 abbrev pub costs : List StepValue → ℕ → ℕ → ℕ
@@ -85,21 +86,21 @@ costs_less items from m n h = go (drop from items) m n h
         omega (arith, p, q, r)
 
 -- a network on its way from the start, and at its end
-pub on_start : (net : NetworkValue) (items : List StepValue) (ps : List PartValue) → items ≡ planned net → (first_wide net ≡ None → AreReady net) → first_wide net ≡ None →
-    passing_place net ≡ first_admissible_step (parities net) net.group (sectors net) 1 (steps net) → IsCarried net 0 ps → IsOnWay net items 0 ps
-on_start net items ps e ready narrow place c = record { is = e; ready = ready narrow; narrow = narrow; place = place; carried = c }
+pub on_start : (net : NetworkValue) (items : List StepValue) (tw : List ℤ) (ps : List PartValue) → items ≡ planned net → tw ≡ net.twists → (first_wide net ≡ None → AreReady net) → first_wide net ≡ None →
+    passing_place net ≡ first_admissible_step (parities net) net.group (sectors net) 1 (steps net) → IsCarried net 0 ps → IsOnWay net items tw 0 ps
+on_start net items tw ps e t ready narrow place c = record { is = e; twists = t; ready = ready narrow; narrow = narrow; place = place; carried = c }
 
-pub on_end : (net : NetworkValue) (items : List StepValue) (ps : List PartValue) → IsWellFormed net → IsOnWay net items (length items) ps → IsFinished net ps
-on_end net items ps w k = record { formed = w; carried = subst (λ n. IsCarried net n ps) (many net items k.is) k.carried }
+pub on_end : (net : NetworkValue) (items : List StepValue) (tw : List ℤ) (ps : List PartValue) → IsWellFormed net → IsOnWay net items tw (length items) ps → IsFinished net ps
+on_end net items tw ps w k = record { formed = w; carried = subst (λ n. IsCarried net n ps) (many net items k.is) k.carried }
 
-pub clear_end : (net : NetworkValue) (items : List StepValue) (ps : List PartValue) → IsOnWay net items (length items) ps → passing_place net ≡ None
-clear_end net items ps k =
+pub clear_end : (net : NetworkValue) (items : List StepValue) (tw : List ℤ) (ps : List PartValue) → IsOnWay net items tw (length items) ps → passing_place net ≡ None
+clear_end net items tw ps k =
     k.place ∙ subst (λ ts. first_admissible_step (parities net) net.group (sectors net) 1 ts ≡ None) (take_all (length items) (steps net) (let e = many net items k.is in omega (arith, e))) k.carried.clear
 
 -- in the terms of a program
 
-pub on_done : (net : NetworkValue) (items : List StepValue) (n : ℕ) (ps : List PartValue) → n ≡ length items → IsWellFormed net → IsOnWay net items n ps → IsFinished net ps
-on_done net items n ps e w k = on_end net items ps w (subst (λ i. IsOnWay net items i ps) e k)
+pub on_done : (net : NetworkValue) (items : List StepValue) (tw : List ℤ) (n : ℕ) (ps : List PartValue) → n ≡ length items → IsWellFormed net → IsOnWay net items tw n ps → IsFinished net ps
+on_done net items tw n ps e w k = on_end net items tw ps w (subst (λ i. IsOnWay net items tw i ps) e k)
 
-pub clear_done : (net : NetworkValue) (items : List StepValue) (n : ℕ) (ps : List PartValue) → n ≡ length items → IsOnWay net items n ps → passing_place net ≡ None
-clear_done net items n ps e k = clear_end net items ps (subst (λ i. IsOnWay net items i ps) e k)
+pub clear_done : (net : NetworkValue) (items : List StepValue) (tw : List ℤ) (n : ℕ) (ps : List PartValue) → n ≡ length items → IsOnWay net items tw n ps → passing_place net ≡ None
+clear_done net items tw n ps e k = clear_end net items tw ps (subst (λ i. IsOnWay net items tw i ps) e k)

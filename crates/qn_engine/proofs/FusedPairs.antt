@@ -90,7 +90,7 @@ module _ (k : PairAt) (sound : IsSoundState (parities_on k.group k.sectors) k.op
       (subst (λ gs. IsNetwork (nodes gs) k.state.left k.opens) at.0 sound.network) at.1 at.2
 
   plain : AreLines k.sectors k.bonds
-  plain = lines_first k.sectors k.bonds k.left (lines_perm k.sectors at.1 lines)
+  plain = lines_first [] k.sectors k.bonds k.left (lines_perm [] k.sectors at.1 lines)
 
   pub word_is : word (k.first.node ∷ k.second.node ∷ []) ≡ k.first.node.ends ++ k.second.node.ends
   word_is = ap (λ es. k.first.node.ends ++ es) (append-nil k.second.node.ends)

@@ -35,12 +35,12 @@ can_take law net w done rest (pair before g between h behind bonds left) e = law
 can_take law net w done rest (trace before g behind bonds left) e = tt
 
 module _ (value : NetworkValueLaw) (laws : StepsLaw) (lines : LinesLaw) (first : FirstTensorsLaw) (groups : GroupsWithinLimits) (pairs : PairsWithinLimits) (never : NeverFirstLaw) (passing : FirstStepsLaw) where
-  pub are_ready : (net : NetworkValue) → IsWellFormed net → net.twists ≡ [] → AreTables net.members → All (λ m. IsBoundedBy limit (node_of m.placed)) net.members → IsNarrowNetwork net → AreReady net
-  are_ready net w plain tables small narrow n lt = record {
+  pub are_ready : (net : NetworkValue) → IsWellFormed net → AreTables net.members → All (λ m. IsBoundedBy limit (node_of m.placed)) net.members → IsNarrowNetwork net → AreReady net
+  are_ready net w tables small narrow n lt = record {
     sound = (here net n lt laws value w).0;
     step = (here net n lt laws value w).1;
     next = next_state net n lt laws value w;
-    lines = lines_at net n lt laws value w lines ((first net w).1 plain);
+    lines = lines_at net n lt laws value w lines (first net w).1;
     can = can_take pairs net narrow (take n (steps net)) (drop (suc n) (steps net)) (step_at net n) (whole net n lt);
     fitting =
         fit_result net w (step_at net n)
@@ -53,10 +53,10 @@ module _ (value : NetworkValueLaw) (laws : StepsLaw) (lines : LinesLaw) (first :
   }
 
 -- all that is known of a network's members makes its steps ready
-pub network_ready : NetworkValueLaw → StepsLaw → LinesLaw → FirstTensorsLaw → GroupsWithinLimits → PairsWithinLimits → NeverFirstLaw → FirstStepsLaw → MemberTablesLaw → (net : NetworkValue) → IsWellFormed net → net.twists ≡ [] →
+pub network_ready : NetworkValueLaw → StepsLaw → LinesLaw → FirstTensorsLaw → GroupsWithinLimits → PairsWithinLimits → NeverFirstLaw → FirstStepsLaw → MemberTablesLaw → (net : NetworkValue) → IsWellFormed net →
     (ms : List LabelledMember) → map placed_member ms ≡ net.members → All (IsMemberOf net.group) ms → length ms ≤ 256 → All (λ m. IsHeld m.member) ms → All (λ m. IsSmallMember m.member) ms → first_wide net ≡ None → AreReady net
-network_ready value laws lines first groups pairs never passing tables net w plain ms e each few held small narrow =
-    are_ready value laws lines first groups pairs never passing net w plain (subst AreTables e (tables ms held)) (subst (λ ps. All (λ m. IsBoundedBy limit (node_of m.placed)) ps) e (small_members ms small))
+network_ready value laws lines first groups pairs never passing tables net w ms e each few held small narrow =
+    are_ready value laws lines first groups pairs never passing net w (subst AreTables e (tables ms held)) (subst (λ ps. All (λ m. IsBoundedBy limit (node_of m.placed)) ps) e (small_members ms small))
     (record { formed = w; members = ms; placed = e; each = each; held = held; few = few; narrow = narrow })
 
 -- before the first step

@@ -1,3 +1,4 @@
+mod TwistedParts
 pub mod PartLists
 pub mod Naming
 pub mod Making

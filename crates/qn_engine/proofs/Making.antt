@@ -1,6 +1,7 @@
 -- What one step makes of its parts.
-use Rattle.std.proofs.Common.{◌≡◌, ◌≤◌, ℕ, ◌+◌, ℤ, Bool, true, false, not, ◌||◌, if◌then◌else◌, Option, List, [], ◌∷◌, ◌++◌, refl, sym, ◌∙◌, ap, ap₂, subst, append-nil, int_eq}
+use Rattle.std.proofs.Common.{◌≡◌, ◌≤◌, ℕ, ◌+◌, ℤ, Bool, true, false, not, ◌||◌, if◌then◌else◌, Option, List, [], ◌∷◌, ◌++◌, refl, sym, ◌∙◌, ap, ap₂, subst, subst₂, length, append-nil, int_eq}
 use Rattle.std.specs.List.{All}
+use Rattle.std.proofs.lemmas.List.{length-map}
 use Rattle.std.proofs.lemmas.List.Elements.{filter-append}
 use Rattle.qn_sign.specs.Sign.{is_in}
 use Rattle.qn_charge.specs.declared.factor.Factor.{Factor}
@@ -10,6 +11,7 @@ use Rattle.qn_index.specs.Tuples.{admitted}
 use Rattle.qn_value.specs.Networks.{same_end, labels}
 use Rattle.qn_value.specs.Tensors.{TensorValue, IsTensor}
 use Rattle.qn_value.specs.Blocks.{legs_on}
+use Rattle.qn_value.specs.Fluxes.{arrow_of}
 use Rattle.qn_value.specs.Local.{open_legs, shared_couples, IsCoupling, Traced, Pairwise}
 use Rattle.qn_value.specs.Magnitudes.{Place, first_passing, trace_magnitude, pair_magnitude}
 use Rattle.qn_block.specs.Blocked.{BlockedValue, IsBlocked, tensor_of}
@@ -22,7 +24,10 @@ use Rattle.qn_net.specs.Carried.{IsSoundState}
 use Rattle.qn_net.specs.Members.{MemberValue, member_tensor, role_of, IsNarrow}
 use Rattle.qn_net.specs.Members.MemberValue.{own}
 use Rattle.qn_net.specs.NetworkValues.{NetworkValue, parities, sectors, opens}
-use Rattle.qn_net.specs.Operations.{IsTensorOf, AreLines, ArePairsOf, AreCouplesOf, PairStepLaw, TraceStepLaw}
+use Rattle.qn_net.specs.Operations.{IsTensorOf, AreTwistedLines, ArePairsOf, AreCouplesOf, parities_on, PairStepLaw, TraceStepLaw}
+use Rattle.qn_net.specs.TwistedSteps.{twisted_where, twisted_inward}
+use Rattle.qn_net.proofs.StepTensors.{lines_perm, lines_first}
+use Rattle.qn_twist.specs.Twisted.{Twisted}
 use Rattle.qn_net.specs.Passing.{takes, sums_over, result_magnitude, result_legs, made}
 use Rattle.qn_plan.specs.Shapes.{shared_places}
 use Rattle.qn_plan.specs.Planned.{cost_of_step}
@@ -30,8 +35,10 @@ use Rattle.qn_plan.proofs.Sharing.{pairs_named}
 use Rattle.qn_pair.specs.Steps.{passing_place as pair_place}
 use Rattle.qn_trace.specs.Steps.{passing_place as trace_place}
 use Rattle.qn_engine.specs.Labels.{labels_without, shared_labels, coupled_labels}
-use Rattle.qn_engine.specs.Parts.{PartValue, ArePartsOf, IsPartOf, IsSameTensor}
+use Rattle.qn_engine.specs.Parts.{PartValue, placed_part, ArePartsOf, IsPartOf, IsSameTensor}
 use Rattle.qn_engine.specs.Carrying.{CanTake, is_odd_between, step_at, state_at, IsTraceAt, IsPairAt, IsMadeAt}
+use Rattle.qn_engine.specs.Twisting.{twisted_places}
+use Rattle.qn_engine.proofs.TwistedParts.{twisted_one, twisted_alone, twisted_same}
 use Rattle.qn_engine.proofs.Naming.{names, shared_named, couples_named, all_stand}
 
 -- a settled part has the tensor of the group
@@ -49,6 +56,10 @@ settled_tensor fs sectors p g a k good same = record {
   flux = same.flux ∙ k.tensor.flux;
 }
 
+-- the part's tensor, twisted at its legs of these labels
+abbrev pub IsTwistedPart : Bool → List ℤ → List ℤ → PartValue → TensorValue → Type 0
+IsTwistedPart all summed twist p a = Twisted (member_tensor p.member) (twisted_places all summed twist 0 (member_tensor p.member).legs p.labels) a
+
 -- the first passing place of a step
 abbrev pub passing_of : NetworkValue → Step → Option Place
 passing_of net t = first_passing (result_magnitude (parities net) made t) (result_legs (parities net) (sectors net) t) (admitted net.group (result_legs (parities net) (sectors net) t) (flux_of net.group (result (parities net) t)))
@@ -60,12 +71,12 @@ pub record TraceFacts (net : NetworkValue) (t : Step) (p : PartValue) (a : Block
       IsPartOf net.group (sectors net) (record { number = n; member = own r; labels = ls }) (result (parities net) t)
   pub place : trace_place a couples ≡ passing_of net t
 
-pub trace_facts : TraceStepLaw → (net : NetworkValue) (s : State) (t : Step) (p : PartValue) (a : BlockedValue) (couples : List (ℕ × ℕ)) → IsSoundState (parities net) (opens net) s → IsStepAt s t → AreLines (sectors net) s.left →
-    ArePartsOf net.group (sectors net) (p ∷ []) (takes t) → IsTensor (tensor_of a) → IsSameTensor (tensor_of a) (member_tensor p.member) →
+pub trace_facts : TraceStepLaw → (net : NetworkValue) (s : State) (t : Step) (p : PartValue) (a : BlockedValue) (couples : List (ℕ × ℕ)) → IsSoundState (parities net) (opens net) s → IsStepAt s t → AreTwistedLines net.twists (sectors net) s.left →
+    ArePartsOf net.group (sectors net) (p ∷ []) (takes t) → IsTensor (tensor_of a) → IsTwistedPart false (labels (sums_over t)) net.twists p (tensor_of a) →
     couples ≡ coupled_labels p.labels (labels (sums_over t)) → TraceFacts net t p a couples
 trace_facts law net s (pair before g between h behind bonds left) p a couples sound at lines k good same e = absurd k.1
 trace_facts law net s (trace before g behind bonds left) p a couples sound at lines k good same e =
-    let facts = law net.group (sectors net) (opens net) s before g behind bonds left (record { tensor = tensor_of a; labels = p.labels }) couples sound at lines here named in
+    let facts = law net.group (sectors net) (opens net) s before g behind bonds left net.twists (record { tensor = tensor_of a; labels = p.labels }) couples sound at lines here named in
     record {
       coupling = facts.0;
       made_of = λ r n ls en el b ok tr. record {
@@ -74,11 +85,11 @@ trace_facts law net s (trace before g behind bonds left) p a couples sound at li
         tensor = subst (λ ks. IsTensorOf net.group (sectors net) (record { tensor = tensor_of r; labels = ks }) (result (parities net) (trace before g behind bonds left))) (sym el) (facts.1 (tensor_of r) ok tr);
         narrow = tt;
       };
-      place = ap (λ qs. first_passing (trace_magnitude (tensor_of a) couples) (open_legs (tensor_of a ∷ []) couples) (admitted qs (open_legs (tensor_of a ∷ []) couples) a.flux)) (same.group ∙ k.0.tensor.node.group) ∙ facts.4;
+      place = ap (λ qs. first_passing (trace_magnitude (tensor_of a) couples) (open_legs (tensor_of a ∷ []) couples) (admitted qs (open_legs (tensor_of a ∷ []) couples) a.flux)) here.node.group ∙ facts.4;
     }
   where
-    here : IsTensorOf net.group (sectors net) (record { tensor = tensor_of a; labels = p.labels }) g
-    here = settled_tensor net.group (sectors net) p g (tensor_of a) k.0 good same
+    here : IsTensorOf net.group (sectors net) (record { tensor = tensor_of a; labels = p.labels }) (twisted_inward (parities_on net.group (sectors net)) bonds g)
+    here = twisted_alone net.group (sectors net) net.twists bonds (placed_part p) g (tensor_of a) (lines_first net.twists (sectors net) bonds left (lines_perm net.twists (sectors net) at.1 lines)) k.0.tensor good same
 
     named : AreCouplesOf p.labels bonds couples
     named =
@@ -103,12 +114,12 @@ pub record PairFacts (net : NetworkValue) (t : Step) (p q : PartValue) (a b : Bl
       cost_of a.group a.legs a.flux b.legs b.flux shared ≡ cost_of_step net t
 
 pub pair_facts : PairStepLaw → (net : NetworkValue) (s : State) (t : Step) (p q : PartValue) (a b : BlockedValue) (shared : List (ℕ × ℕ)) → IsSoundState (parities net) (opens net) s → IsStepAt s t →
-    AreLines (sectors net) s.left → CanTake net t → ArePartsOf net.group (sectors net) (p ∷ q ∷ []) (takes t) → IsTensor (tensor_of a) → IsTensor (tensor_of b) →
-    IsSameTensor (tensor_of a) (member_tensor p.member) → IsSameTensor (tensor_of b) (member_tensor q.member) →
+    AreTwistedLines net.twists (sectors net) s.left → CanTake net t → ArePartsOf net.group (sectors net) (p ∷ q ∷ []) (takes t) → IsTensor (tensor_of a) → IsTensor (tensor_of b) →
+    IsTwistedPart true (labels (sums_over t)) net.twists p (tensor_of a) → IsSameTensor (tensor_of b) (member_tensor q.member) →
     shared ≡ shared_labels p.labels q.labels (labels (sums_over t)) → PairFacts net t p q a b shared
 pair_facts law net s (trace before g behind bonds left) p q a b shared sound at lines can k good fine same alike e = absurd k.1
 pair_facts law net s (pair before g between h behind bonds left) p q a b shared sound at lines can k good fine same alike e =
-    let facts = law net.group (sectors net) (opens net) s before g between h behind bonds left (record { tensor = tensor_of a; labels = p.labels }) (record { tensor = tensor_of b; labels = q.labels }) shared sound at lines first second named in
+    let facts = law net.group (sectors net) (opens net) s before g between h behind bonds left net.twists true (record { tensor = tensor_of a; labels = p.labels }) (record { tensor = tensor_of b; labels = q.labels }) shared sound at lines first second named in
     record {
       can = record {
         group = first.node.group ∙ sym second.node.group;
@@ -131,8 +142,8 @@ pair_facts law net s (pair before g between h behind bonds left) p q a b shared 
     fs : List Factor
     fs = net.group
 
-    first : IsTensorOf net.group (sectors net) (record { tensor = tensor_of a; labels = p.labels }) g
-    first = settled_tensor net.group (sectors net) p g (tensor_of a) k.0 good same
+    first : IsTensorOf net.group (sectors net) (record { tensor = tensor_of a; labels = p.labels }) (twisted_where true (parities_on net.group (sectors net)) bonds g)
+    first = twisted_one net.group (sectors net) net.twists bonds (placed_part p) g (tensor_of a) (lines_first net.twists (sectors net) bonds left (lines_perm net.twists (sectors net) at.1 lines)) k.0.tensor good same
 
     second : IsTensorOf net.group (sectors net) (record { tensor = tensor_of b; labels = q.labels }) h
     second = settled_tensor net.group (sectors net) q h (tensor_of b) k.1.0 fine alike
@@ -176,41 +187,56 @@ pair_facts law net s (pair before g between h behind bonds left) p q a b shared 
 pub same_at : (t a : BlockedValue) (m : MemberValue) (p : PartValue) → a ≡ t → m ≡ p.member → IsSameTensor (tensor_of t) (member_tensor m) → IsSameTensor (tensor_of a) (member_tensor p.member)
 same_at t a m p e q k = subst (λ u. IsSameTensor (tensor_of u) (member_tensor p.member)) (sym e) (subst (λ n. IsSameTensor (tensor_of t) (member_tensor n)) q k)
 
-pub trace_at : TraceStepLaw → (net : NetworkValue) (n : ℕ) (p : PartValue) (summed : List ℤ) → IsTraceAt net n p summed → (a : BlockedValue) (couples : List (ℕ × ℕ)) → IsTensor (tensor_of a) →
-    IsSameTensor (tensor_of a) (member_tensor p.member) → couples ≡ coupled_labels p.labels summed → TraceFacts net (step_at net n) p a couples
-trace_at law net n p summed w a couples good same e =
-    trace_facts law net (state_at net n) (step_at net n) p a couples w.ready.sound w.ready.step w.ready.lines w.taken good same (e ∙ ap (coupled_labels p.labels) w.over)
+-- a part's labels, one for each leg
+pub labels_long : (fs : List Factor) (sec : ℤ → List SectorValue) (p : PartValue) (g : TensorGroup) → IsPartOf fs sec p g → length p.labels ≡ length (member_tensor p.member).legs
+labels_long fs sec p g k =
+    ap (λ (ls : List ℤ). length ls) k.tensor.node.labels ∙ length-map g.node.ends (λ e. e.label)
+    ∙ sym (length-map g.node.ends (λ e. record { arrow = arrow_of e.inward; sectors = sec e.label })) ∙ ap (λ (gs : List LegValue). length gs) (sym k.tensor.node.legs)
 
-pub trace_labels : (net : NetworkValue) (n : ℕ) (p : PartValue) (summed ls : List ℤ) → IsTraceAt net n p summed → ls ≡ p.labels → All (λ l. is_in int_eq l ls ≡ true) summed
-trace_labels net n p summed ls w e =
+-- what the twisting of a settled part gives, in terms of the part
+pub twist_at : (all : Bool) (summed twist ls : List ℤ) (t : BlockedValue) (m : MemberValue) (a : BlockedValue) (p : PartValue) → a ≡ t → m ≡ p.member → ls ≡ p.labels →
+    Twisted (member_tensor m) (twisted_places all summed twist 0 (member_tensor m).legs ls) (tensor_of t) → IsTwistedPart all summed twist p (tensor_of a)
+twist_at all summed twist ls t m a p ea em el w =
+    subst (λ u. IsTwistedPart all summed twist p (tensor_of u)) (sym ea)
+    (subst₂ (λ n ks. Twisted (member_tensor n) (twisted_places all summed twist 0 (member_tensor n).legs ks) (tensor_of t)) em el w)
+
+pub trace_at : TraceStepLaw → (net : NetworkValue) (n : ℕ) (p : PartValue) (summed twist : List ℤ) → IsTraceAt net n p summed twist → (a : BlockedValue) (couples : List (ℕ × ℕ)) → IsTensor (tensor_of a) →
+    IsTwistedPart false summed twist p (tensor_of a) → couples ≡ coupled_labels p.labels summed → TraceFacts net (step_at net n) p a couples
+trace_at law net n p summed twist w a couples good same e =
+    trace_facts law net (state_at net n) (step_at net n) p a couples w.ready.sound w.ready.step w.ready.lines w.taken good
+    (subst₂ (λ ss ts. IsTwistedPart false ss ts p (tensor_of a)) w.over w.twists same) (e ∙ ap (coupled_labels p.labels) w.over)
+
+pub trace_labels : (net : NetworkValue) (n : ℕ) (p : PartValue) (summed twist ls : List ℤ) → IsTraceAt net n p summed twist → ls ≡ p.labels → All (λ l. is_in int_eq l ls ≡ true) summed
+trace_labels net n p summed twist ls w e =
     subst (λ ks. All (λ l. is_in int_eq l ks ≡ true) summed) (sym e)
     (subst (All (λ l. is_in int_eq l p.labels ≡ true)) (sym w.over) (trace_stands net (state_at net n) (step_at net n) p w.ready.step w.taken))
 
-pub trace_made : (net : NetworkValue) (n : ℕ) (p : PartValue) (summed : List ℤ) → IsTraceAt net n p summed → (a : BlockedValue) (couples : List (ℕ × ℕ)) → TraceFacts net (step_at net n) p a couples →
+pub trace_made : (net : NetworkValue) (n : ℕ) (p : PartValue) (summed twist : List ℤ) → IsTraceAt net n p summed twist → (a : BlockedValue) (couples : List (ℕ × ℕ)) → TraceFacts net (step_at net n) p a couples →
     (t : BlockedValue) (r : PartValue) (m : ℕ) (xs : List ℤ) → r ≡ record { number = m; member = own t; labels = labels_without summed xs ++ [] } → m ≡ p.number → xs ≡ p.labels → IsBlocked t → IsTensor (tensor_of t) →
     Traced (tensor_of a) couples (tensor_of t) → IsMadeAt net n r
-trace_made net n p summed w a couples facts t r m xs e em ex b ok tr =
+trace_made net n p summed twist w a couples facts t r m xs e em ex b ok tr =
     subst (IsMadeAt net n) (sym e)
     (facts.made_of t m (labels_without summed xs ++ []) em (append-nil (labels_without summed xs) ∙ ap₂ (λ (s ls : List ℤ). labels_without s ls) w.over ex) b ok tr)
 
-pub pair_at : PairStepLaw → (net : NetworkValue) (n : ℕ) (p q : PartValue) (between : Bool) (summed : List ℤ) → IsPairAt net n p q between summed → (a b : BlockedValue) (shared : List (ℕ × ℕ)) → IsTensor (tensor_of a) → IsTensor (tensor_of b) →
-    IsSameTensor (tensor_of a) (member_tensor p.member) → IsSameTensor (tensor_of b) (member_tensor q.member) → shared ≡ shared_labels p.labels q.labels summed → PairFacts net (step_at net n) p q a b shared
-pair_at law net n p q between summed w a b shared good fine same alike e =
-    pair_facts law net (state_at net n) (step_at net n) p q a b shared w.ready.sound w.ready.step w.ready.lines w.ready.can w.taken good fine same alike (e ∙ ap (shared_labels p.labels q.labels) w.over)
+pub pair_at : PairStepLaw → (net : NetworkValue) (n : ℕ) (p q : PartValue) (between : Bool) (summed twist : List ℤ) → IsPairAt net n p q between summed twist → (a b : BlockedValue) (shared : List (ℕ × ℕ)) → IsTensor (tensor_of a) → IsTensor (tensor_of b) →
+    IsTwistedPart true summed twist p (tensor_of a) → IsSameTensor (tensor_of b) (member_tensor q.member) → shared ≡ shared_labels p.labels q.labels summed → PairFacts net (step_at net n) p q a b shared
+pair_at law net n p q between summed twist w a b shared good fine same alike e =
+    pair_facts law net (state_at net n) (step_at net n) p q a b shared w.ready.sound w.ready.step w.ready.lines w.ready.can w.taken good fine
+    (subst₂ (λ ss ts. IsTwistedPart true ss ts p (tensor_of a)) w.over w.twists same) alike (e ∙ ap (shared_labels p.labels q.labels) w.over)
 
-pub pair_made : (net : NetworkValue) (n : ℕ) (p q : PartValue) (between : Bool) (summed : List ℤ) → IsPairAt net n p q between summed → (a b : BlockedValue) (shared : List (ℕ × ℕ)) → PairFacts net (step_at net n) p q a b shared →
+pub pair_made : (net : NetworkValue) (n : ℕ) (p q : PartValue) (between : Bool) (summed twist : List ℤ) → IsPairAt net n p q between summed twist → (a b : BlockedValue) (shared : List (ℕ × ℕ)) → PairFacts net (step_at net n) p q a b shared →
     (t : BlockedValue) (r : PartValue) (m : ℕ) (xs ys : List ℤ) → r ≡ record { number = m; member = own t; labels = labels_without summed xs ++ labels_without summed ys } → m ≡ p.number → xs ≡ p.labels → ys ≡ q.labels →
     IsTensor (tensor_of t) → Pairwise (tensor_of a) (tensor_of b) shared between (tensor_of t) → IsMadeAt net n r
-pair_made net n p q between summed w a b shared facts t r m xs ys e em ex ey ok pw =
+pair_made net n p q between summed twist w a b shared facts t r m xs ys e em ex ey ok pw =
     subst (IsMadeAt net n) (sym e)
     (facts.made_of t m (labels_without summed xs ++ labels_without summed ys) em (λ i. labels_without (w.over i) (ex i) ++ labels_without (w.over i) (ey i)) ok
     (subst (λ x. Pairwise (tensor_of a) (tensor_of b) shared x (tensor_of t)) w.odd pw))
 
 -- the steps of a pair step that does not fuse
-pub pair_cost : (net : NetworkValue) (n : ℕ) (p q : PartValue) (between : Bool) (summed : List ℤ) → IsPairAt net n p q between summed → (a b : BlockedValue) (shared : List (ℕ × ℕ)) → PairFacts net (step_at net n) p q a b shared →
+pub pair_cost : (net : NetworkValue) (n : ℕ) (p q : PartValue) (between : Bool) (summed twist : List ℤ) → IsPairAt net n p q between summed twist → (a b : BlockedValue) (shared : List (ℕ × ℕ)) → PairFacts net (step_at net n) p q a b shared →
     meets_condition (role_of p.member) p.labels summed ≡ false → meets_condition (role_of q.member) q.labels summed ≡ false → (before now : ℕ) → now ≤ before + cost_of a.group a.legs a.flux b.legs b.flux shared →
     now ≤ before + cost_of_step net (step_at net n)
-pair_cost net n p q between summed w a b shared facts x y before now h =
+pair_cost net n p q between summed twist w a b shared facts x y before now h =
     subst (λ k. now ≤ before + k)
     (facts.cost (ap (meets_condition (role_of p.member) p.labels) (sym w.over) ∙ x) (ap (meets_condition (role_of q.member) q.labels) (sym w.over) ∙ y)) h
 
@@ -220,3 +246,20 @@ taken_narrow fs sec p q [] k = absurd k
 taken_narrow fs sec p q (g ∷ []) k = absurd k.1
 taken_narrow fs sec p q (g ∷ h ∷ []) k = (k.0.narrow, k.1.0.narrow)
 taken_narrow fs sec p q (g ∷ h ∷ i ∷ gs) k = absurd k.1.1
+
+-- their labels are one for each leg
+pub taken_long : (fs : List Factor) (sec : ℤ → List SectorValue) (p q : PartValue) (gs : List TensorGroup) → ArePartsOf fs sec (p ∷ q ∷ []) gs →
+    (length p.labels ≡ length (member_tensor p.member).legs) × (length q.labels ≡ length (member_tensor q.member).legs)
+taken_long fs sec p q [] k = absurd k
+taken_long fs sec p q (g ∷ []) k = absurd k.1
+taken_long fs sec p q (g ∷ h ∷ []) k = (labels_long fs sec p g k.0, labels_long fs sec q h k.1.0)
+taken_long fs sec p q (g ∷ h ∷ i ∷ gs) k = absurd k.1.1
+
+pub labels_at : (p : PartValue) (m : MemberValue) (ls : List ℤ) → m ≡ p.member → ls ≡ p.labels → length p.labels ≡ length (member_tensor p.member).legs → length ls ≡ length (member_tensor m).legs
+labels_at p m ls em el k = ap (λ (xs : List ℤ). length xs) el ∙ k ∙ ap (λ n. length (member_tensor n).legs) (sym em)
+
+pub trace_narrow : (fs : List Factor) (sec : ℤ → List SectorValue) (p : PartValue) (gs : List TensorGroup) → ArePartsOf fs sec (p ∷ []) gs →
+    IsNarrow p.member × (length p.labels ≡ length (member_tensor p.member).legs)
+trace_narrow fs sec p [] k = absurd k
+trace_narrow fs sec p (g ∷ []) k = (k.0.narrow, labels_long fs sec p g k.0)
+trace_narrow fs sec p (g ∷ h ∷ gs) k = absurd k.1

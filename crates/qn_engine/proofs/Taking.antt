@@ -1,5 +1,5 @@
 -- A step on the list of parts: the parts that it takes, and the list with its result.
-use Rattle.std.proofs.Common.{◌≡◌, ◌≢◌, ◌≤◌, ◌<◌, ◌-◌, ℕ, suc, ◌+◌, Bool, true, false, ◌||◌, if◌then◌else◌, List, [], ◌∷◌, ◌++◌, refl, sym, ◌∙◌, ap, ap₂, subst, length, append_assoc, add-one, get_or, take, drop, arith}
+use Rattle.std.proofs.Common.{ℤ, ◌≡◌, ◌≢◌, ◌≤◌, ◌<◌, ◌-◌, ℕ, suc, ◌+◌, Bool, true, false, ◌||◌, if◌then◌else◌, List, [], ◌∷◌, ◌++◌, refl, sym, ◌∙◌, ap, ap₂, subst, length, append_assoc, add-one, get_or, take, drop, arith}
 use Rattle.std.specs.List.{remove, insert}
 use Rattle.std.proofs.lemmas.List.{length-append}
 use Rattle.qn_value.specs.Networks.{labels}
@@ -39,8 +39,8 @@ not_trace : (b : Bool) → (if b then fuse_step else pair_step) ≡ trace_step �
 not_trace true e = cc e
 not_trace false e = cc e
 
-pub trace_cut : (net : NetworkValue) (n : ℕ) (parts : List PartValue) (step : StepValue) → IsNext net n parts step → step.kind ≡ trace_step → TraceCut net n parts (place_of step.first parts)
-trace_cut net n parts step k kind = go (step_at net n) refl
+pub trace_cut : (net : NetworkValue) (n : ℕ) (parts : List PartValue) (step : StepValue) (twist : List ℤ) → IsNext net n parts step twist → step.kind ≡ trace_step → TraceCut net n parts (place_of step.first parts)
+trace_cut net n parts step twist k kind = go (step_at net n) refl
   where
     go : (t : Step) → step_at net n ≡ t → TraceCut net n parts (place_of step.first parts)
     go (pair before g between h behind bonds left) e =
@@ -105,8 +105,8 @@ pub record PairCut (net : NetworkValue) (n : ℕ) (parts : List PartValue) (i j 
   pub taken : ArePartsOf net.group (sectors net) (one ∷ two ∷ []) (takes (step_at net n))
   pub after_it : (r : PartValue) → IsMadeAt net n r → ArePartsOf net.group (sectors net) (first ++ (r ∷ (middle ++ last))) (state_at net (n + 1)).groups
 
-pub pair_cut : (net : NetworkValue) (n : ℕ) (parts : List PartValue) (step : StepValue) → IsNext net n parts step → step.kind ≢ trace_step → PairCut net n parts (place_of step.first parts) (place_of step.second parts)
-pair_cut net n parts step k kind = go (step_at net n) refl
+pub pair_cut : (net : NetworkValue) (n : ℕ) (parts : List PartValue) (step : StepValue) (twist : List ℤ) → IsNext net n parts step twist → step.kind ≢ trace_step → PairCut net n parts (place_of step.first parts) (place_of step.second parts)
+pair_cut net n parts step twist k kind = go (step_at net n) refl
   where
     go : (t : Step) → step_at net n ≡ t → PairCut net n parts (place_of step.first parts) (place_of step.second parts)
     go (trace before g behind bonds left) e = absurd (kind (ap (λ (s : StepValue). s.kind) k.step_is ∙ ap (λ (u : Step). (written u).kind) e))

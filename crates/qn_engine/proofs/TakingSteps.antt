@@ -15,33 +15,34 @@ use Rattle.qn_engine.proofs.Walking.{clear_next, fault_next}
 use Rattle.qn_engine.proofs.Taking.{labels_written, trace_cut, PairCut, pair_cut}
 
 -- the labels of the next step
-next_labels : (net : NetworkValue) (n : ℕ) (parts : List PartValue) (step : StepValue) → IsNext net n parts step → step.labels ≡ labels (sums_over (step_at net n))
-next_labels net n parts step k = ap (λ (s : StepValue). s.labels) k.step_is ∙ labels_written (step_at net n)
+next_labels : (net : NetworkValue) (n : ℕ) (parts : List PartValue) (step : StepValue) (twist : List ℤ) → IsNext net n parts step twist → step.labels ≡ labels (sums_over (step_at net n))
+next_labels net n parts step twist k = ap (λ (s : StepValue). s.labels) k.step_is ∙ labels_written (step_at net n)
 
-pub next_cost : (net : NetworkValue) (n : ℕ) (parts : List PartValue) (step : StepValue) → IsNext net n parts step → cost_of_step net (step_at net n) ≡ step.cost
-next_cost net n parts step k = sym (ap (λ (s : StepValue). s.cost) k.step_is)
+pub next_cost : (net : NetworkValue) (n : ℕ) (parts : List PartValue) (step : StepValue) (twist : List ℤ) → IsNext net n parts step twist → cost_of_step net (step_at net n) ≡ step.cost
+next_cost net n parts step twist k = sym (ap (λ (s : StepValue). s.cost) k.step_is)
 
-pub next_fault : (net : NetworkValue) (n : ℕ) (parts : List PartValue) (step : StepValue) → IsNext net n parts step → (e : EngineFault) → IsPassedAt net n e → IsEngineFault net e
-next_fault net n parts step k = fault_next net n k.within k.carried.clear k.narrow k.place
+pub next_fault : (net : NetworkValue) (n : ℕ) (parts : List PartValue) (step : StepValue) (twist : List ℤ) → IsNext net n parts step twist → (e : EngineFault) → IsPassedAt net n e → IsEngineFault net e
+next_fault net n parts step twist k = fault_next net n k.within k.carried.clear k.narrow k.place
 
-module _ (net : NetworkValue) (n : ℕ) (parts : List PartValue) (step : StepValue) (k : IsNext net n parts step) where
+module _ (net : NetworkValue) (n : ℕ) (parts : List PartValue) (step : StepValue) (twist : List ℤ) (k : IsNext net n parts step twist) where
   pub trace_within : step.kind ≡ trace_step → (i : ℕ) → i ≡ place_of step.first parts → i < length parts
-  trace_within kind i e = subst (λ j. j < length parts) (sym e) (trace_cut net n parts step k kind).within
+  trace_within kind i e = subst (λ j. j < length parts) (sym e) (trace_cut net n parts step twist k kind).within
 
   -- the part that was removed
-  pub trace_taken : step.kind ≡ trace_step → (i : ℕ) → i ≡ place_of step.first parts → (p : PartValue) → p ≡ get_or parts i p → (summed : List ℤ) → summed ≡ step.labels → IsTraceAt net n p summed
+  pub trace_taken : step.kind ≡ trace_step → (i : ℕ) → i ≡ place_of step.first parts → (p : PartValue) → p ≡ get_or parts i p → (summed : List ℤ) → summed ≡ step.labels → IsTraceAt net n p summed twist
   trace_taken kind i e p ep summed es =
-      let cut = trace_cut net n parts step k kind in
+      let cut = trace_cut net n parts step twist k kind in
       let same : p ≡ cut.part = ep ∙ ap (λ j. get_or parts j p) e ∙ cut.part_is p in
       record {
         ready = k.ready n k.within;
         taken = subst (λ q. ArePartsOf net.group (sectors net) (q ∷ []) (takes (step_at net n))) (sym same) cut.taken;
-        over = es ∙ next_labels net n parts step k;
+        over = es ∙ next_labels net n parts step twist k;
+        twists = k.twists;
       }
 
   pub trace_room : step.kind ≡ trace_step → (i : ℕ) → i ≡ place_of step.first parts → (left : List PartValue) → left ≡ remove parts i → i ≤ length left
   trace_room kind i e left el =
-      let cut = trace_cut net n parts step k kind in
+      let cut = trace_cut net n parts step twist k kind in
       let where_ : i ≡ length cut.first = e ∙ cut.place in
       let rest : left ≡ cut.first ++ cut.last = el ∙ ap (remove parts) e ∙ cut.removed in
       let long : length left ≡ length (cut.first ++ cut.last) = ap (λ (ps : List PartValue). length ps) rest in
@@ -51,7 +52,7 @@ module _ (net : NetworkValue) (n : ℕ) (parts : List PartValue) (step : StepVal
   pub trace_carried : step.kind ≡ trace_step → (i : ℕ) → i ≡ place_of step.first parts → (left new : List PartValue) (r : PartValue) → left ≡ remove parts i → new ≡ insert left i r → IsMadeAt net n r → passing_at net n ≡ None →
       IsCarried net (n + 1) new
   trace_carried kind i e left new r el en made none =
-      let cut = trace_cut net n parts step k kind in
+      let cut = trace_cut net n parts step twist k kind in
       let list : new ≡ cut.first ++ (r ∷ cut.last) = en ∙ ap₂ (λ (ps : List PartValue) (j : ℕ). insert ps j r) (el ∙ ap (remove parts) e ∙ cut.removed) e ∙ cut.put r in
       record {
         parts_of = subst (λ ps. ArePartsOf net.group (sectors net) ps (state_at net (n + 1)).groups) (sym list) (cut.after_it r made);
@@ -60,7 +61,7 @@ module _ (net : NetworkValue) (n : ℕ) (parts : List PartValue) (step : StepVal
 
   module _ (kind : step.kind ≢ trace_step) (i j : ℕ) (ei : i ≡ place_of step.first parts) (ej : j ≡ place_of step.second parts) where
     cut : PairCut net n parts i j
-    cut = subst (λ a. PairCut net n parts a j) (sym ei) (subst (PairCut net n parts (place_of step.first parts)) (sym ej) (pair_cut net n parts step k kind))
+    cut = subst (λ a. PairCut net n parts a j) (sym ei) (subst (PairCut net n parts (place_of step.first parts)) (sym ej) (pair_cut net n parts step twist k kind))
 
     pub pair_within : (i < j) × (j < length parts)
     pair_within = (cut.ordered, cut.within)
@@ -79,14 +80,15 @@ module _ (net : NetworkValue) (n : ℕ) (parts : List PartValue) (step : StepVal
       pair_room = subst (λ ps. i ≤ length ps) (sym rest_is) cut.put_within
 
       pub pair_taken : (p q : PartValue) → q ≡ get_or parts j q → p ≡ get_or left i p → (between : Bool) (ps : List PartValue) → between ≡ is_odd_number ps → ps ≡ take (j - (i + 1)) (drop (i + 1) parts) →
-          (summed : List ℤ) → summed ≡ step.labels → IsPairAt net n p q between summed
+          (summed : List ℤ) → summed ≡ step.labels → IsPairAt net n p q between summed twist
       pair_taken p q eq ep between ps eb es summed et = record {
         ready = k.ready n k.within;
         taken =
             subst (λ x. ArePartsOf net.group (sectors net) (x ∷ q ∷ []) (takes (step_at net n))) (sym (ep ∙ ap (λ ls. get_or ls i p) left_is ∙ cut.one_is p))
             (subst (λ y. ArePartsOf net.group (sectors net) (cut.one ∷ y ∷ []) (takes (step_at net n))) (sym (eq ∙ cut.two_is q)) cut.taken);
         odd = eb ∙ ap is_odd_number (es ∙ cut.between) ∙ cut.odd;
-        over = et ∙ next_labels net n parts step k;
+        over = et ∙ next_labels net n parts step twist k;
+        twists = k.twists;
       }
 
       pub pair_carried : (new : List PartValue) (r : PartValue) → new ≡ insert rest i r → IsMadeAt net n r → (AreClear net n → passing_at net n ≡ None) → IsCarried net (n + 1) new

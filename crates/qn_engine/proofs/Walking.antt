@@ -10,7 +10,7 @@ use Rattle.qn_net.specs.Steps.{Step, State, result, after, carry}
 use Rattle.qn_net.specs.Carried.{AllSound, StepsLaw}
 use Rattle.qn_net.specs.Passing.{StepPlace, place_of_step, result_magnitude, result_legs, first_passing_step, first_admissible_step, made}
 use Rattle.qn_net.specs.NetworkValues.{NetworkValue, IsWellFormed, parities, sectors, opens, begin, steps, passing_place, NetworkValueLaw}
-use Rattle.qn_net.specs.Operations.{AreLines, LinesLaw}
+use Rattle.qn_net.specs.Operations.{AreTwistedLines, LinesLaw}
 use Rattle.qn_plan.specs.Planned.{first_wide}
 use Rattle.qn_plan.proofs.Listing.{cut, cut_length}
 use Rattle.qn_engine.specs.Carrying.{step_at, state_at, result_at, passing_at, AreClear, IsPassedAt}
@@ -53,12 +53,12 @@ module _ (net : NetworkValue) (n : ℕ) (lt : n < length (steps net)) where
         carry_append (t ∷ ts) s = carry_append ts (after (parities net) t)
 
     -- the lines left
-    pub lines_at : LinesLaw → AreLines (sectors net) (begin net).left → AreLines (sectors net) (state_at net n).left
+    pub lines_at : LinesLaw → AreTwistedLines net.twists (sectors net) (begin net).left → AreTwistedLines net.twists (sectors net) (state_at net n).left
     lines_at lines k = go (take n (steps net)) (step_at net n ∷ drop (suc n) (steps net)) (begin net) all_sound k
       where
-        go : (ts us : List Step) (s : State) → AllSound (parities net) (opens net) (ts ++ us) s → AreLines (sectors net) s.left → AreLines (sectors net) (carry (parities net) ts s).left
+        go : (ts us : List Step) (s : State) → AllSound (parities net) (opens net) (ts ++ us) s → AreTwistedLines net.twists (sectors net) s.left → AreTwistedLines net.twists (sectors net) (carry (parities net) ts s).left
         go [] us s sound k = k
-        go (t ∷ ts) us s sound k = go ts us (after (parities net) t) sound.2 (lines (sectors net) (parities net) s t k sound.1)
+        go (t ∷ ts) us s sound k = go ts us (after (parities net) t) sound.2 (lines net.twists (sectors net) (parities net) s t k sound.1)
 
 -- passing places
 

@@ -13,7 +13,7 @@ use Rattle.qn_net.specs.Carried.{IsSoundState}
 use Rattle.qn_net.specs.Passing.{takes, sums_over, result_magnitude, result_legs, first_admissible_step, made}
 use Rattle.qn_net.specs.NetworkValues.{NetworkValue, parities, sectors, opens, begin, steps, passing_place, IsWellFormed}
 use Rattle.qn_net.specs.Members.{LabelledMember, IsHeld}
-use Rattle.qn_net.specs.Operations.{AreLines}
+use Rattle.qn_net.specs.Operations.{AreTwistedLines}
 use Rattle.qn_plan.specs.Shapes.{shape_of}
 use Rattle.qn_plan.specs.Planned.{StepValue, planned_step, planned, first_wide}
 use Rattle.qn_plan.specs.Conditions.{CanCost}
@@ -57,12 +57,12 @@ abbrev pub CanTake : NetworkValue → Step → Type 0
 CanTake net (pair before g between h behind bonds left) = CanCost net.group (shape_of net.group (sectors net) g) (shape_of net.group (sectors net) h) (labels bonds)
 CanTake net (trace before g behind bonds left) = Unit {0}
 
--- what holds of the step after the first n: it is one of a sound state with plain lines; its result is within the limits; and where it fuses or splits it is not the first to pass
+-- what holds of the step after the first n: it is one of a sound state, whose lines are twisted where the network says so; its result is within the limits; and where it fuses or splits it is not the first to pass
 pub record IsReady (net : NetworkValue) (n : ℕ) : Type 0 where
   pub sound : IsSoundState (parities net) (opens net) (state_at net n)
   pub step : IsStepAt (state_at net n) (step_at net n)
   pub next : state_at net (n + 1) ≡ after (parities net) (step_at net n)
-  pub lines : AreLines (sectors net) (state_at net n).left
+  pub lines : AreTwistedLines net.twists (sectors net) (state_at net n).left
   pub can : CanTake net (step_at net n)
   pub fitting : IsFitting net.group (sectors net) (result_at net n)
   pub silent : (written (step_at net n)).kind ≡ fuse_step → AreClear net n → passing_at net n ≡ None
@@ -81,35 +81,39 @@ IsPassedAt net n (Wide step) = ⊥
 IsPassedAt net n (Passed step at offset) = (step ≡ n + 1) × (passing_at net n ≡ Some (record { tuple = at; offset = offset }))
 IsPassedAt net n Memory = Unit {0}
 
--- the part is what the step after the first n sums, over these labels
-pub record IsTraceAt (net : NetworkValue) (n : ℕ) (p : PartValue) (summed : List ℤ) : Type 0 where
+-- the part is what the step after the first n sums, over these labels; and these are the twisted labels
+pub record IsTraceAt (net : NetworkValue) (n : ℕ) (p : PartValue) (summed twist : List ℤ) : Type 0 where
   pub ready : IsReady net n
   pub taken : ArePartsOf net.group (sectors net) (p ∷ []) (takes (step_at net n))
   pub over : summed ≡ labels (sums_over (step_at net n))
+  pub twists : twist ≡ net.twists
 
--- the parts are the two that the step after the first n brings together, over these labels; between them the flux is odd or not
-pub record IsPairAt (net : NetworkValue) (n : ℕ) (p q : PartValue) (between : Bool) (summed : List ℤ) : Type 0 where
+-- the parts are the two that the step after the first n brings together, over these labels; between them the flux is odd or not; and these are the twisted labels
+pub record IsPairAt (net : NetworkValue) (n : ℕ) (p q : PartValue) (between : Bool) (summed twist : List ℤ) : Type 0 where
   pub ready : IsReady net n
   pub taken : ArePartsOf net.group (sectors net) (p ∷ q ∷ []) (takes (step_at net n))
   pub odd : between ≡ is_odd_between (step_at net n)
   pub over : summed ≡ labels (sums_over (step_at net n))
+  pub twists : twist ≡ net.twists
 
 -- the part is what the step after the first n makes
 abbrev pub IsMadeAt : NetworkValue → ℕ → PartValue → Type 0
 IsMadeAt net n r = IsPartOf net.group (sectors net) r (result_at net n)
 
--- after the first n steps of a network none of which has a result that is too wide, this is the next one
-pub record IsNext (net : NetworkValue) (n : ℕ) (parts : List PartValue) (step : StepValue) : Type 0 where
+-- after the first n steps of a network none of which has a result that is too wide, this is the next one; and these are the twisted labels
+pub record IsNext (net : NetworkValue) (n : ℕ) (parts : List PartValue) (step : StepValue) (twist : List ℤ) : Type 0 where
   pub ready : AreReady net
   pub narrow : first_wide net ≡ None
   pub place : passing_place net ≡ first_admissible_step (parities net) net.group (sectors net) 1 (steps net)
   pub carried : IsCarried net n parts
   pub within : n < length (steps net)
   pub step_is : step ≡ planned_step net (step_at net n)
+  pub twists : twist ≡ net.twists
 
--- the list is the plan of a network none of whose steps has a result that is too wide, and its first n steps are taken
-pub record IsOnWay (net : NetworkValue) (plan : List StepValue) (n : ℕ) (parts : List PartValue) : Type 0 where
+-- the lists are the plan and the twisted labels of a network none of whose steps has a result that is too wide, and its first n steps are taken
+pub record IsOnWay (net : NetworkValue) (plan : List StepValue) (twist : List ℤ) (n : ℕ) (parts : List PartValue) : Type 0 where
   pub is : plan ≡ planned net
+  pub twists : twist ≡ net.twists
   pub ready : AreReady net
   pub narrow : first_wide net ≡ None
   pub place : passing_place net ≡ first_admissible_step (parities net) net.group (sectors net) 1 (steps net)

@@ -3,3 +3,4 @@ pub mod Fusing
 pub mod Labels
 pub mod Parts
 pub mod Carrying
+pub mod Twisting

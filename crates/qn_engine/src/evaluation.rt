@@ -96,13 +96,14 @@ pub fn finished<'a, const K: usize, R: Threads + Sync>(
     Ok(moved.canonical())
 }
 
-/// Carries out the steps of the plan from one place to another, on the parts that the steps before made. Each
-/// multiplication is one of `steps`.
+/// Carries out the steps of the plan from one place to another, on the parts that the steps before made, for a network
+/// with these twisted labels. Each multiplication is one of `steps`.
 pub fn carry<'a, const K: usize, R: Threads + Sync, G: Gate, L: Ledger>(
     rt: &R,
     alloc: Global,
     parts: &mut Vec<Part<'a, K>>,
     planned: &[Step],
+    twist: &[i64],
     from: usize,
     to: usize,
     workers: u32,
@@ -114,9 +115,9 @@ pub fn carry<'a, const K: usize, R: Threads + Sync, G: Gate, L: Ledger>(
     requires short { length planned.now ≤ 8448 }
     requires some { 1 ≤ workers }
     requires few { workers ≤ 64 }
-    requires way { (net : NetworkValue) × IsOnWay net planned.now from parts.old.items }
-    ensures carried { OnOk result ((net : NetworkValue) → IsOnWay net planned.now from parts.old.items → IsOnWay net planned.now to parts.new.items) }
-    ensures err { IfErr result (λ e. (net : NetworkValue) → IsOnWay net planned.now from parts.old.items → IsEngineFault net e) }
+    requires way { (net : NetworkValue) × IsOnWay net planned.now twist.now from parts.old.items }
+    ensures carried { OnOk result ((net : NetworkValue) → IsOnWay net planned.now twist.now from parts.old.items → IsOnWay net planned.now twist.now to parts.new.items) }
+    ensures err { IfErr result (λ e. (net : NetworkValue) → IsOnWay net planned.now twist.now from parts.old.items → IsEngineFault net e) }
     ensures steps { steps.new ≤ steps.old + sum_by (λ t. t.cost) (take (to - from) (drop from planned.now)) }
 {
     for i in from..to {
@@ -125,6 +126,7 @@ pub fn carry<'a, const K: usize, R: Threads + Sync, G: Gate, L: Ledger>(
             alloc,
             parts,
             &planned[i],
+            twist,
             i as u32,
             workers,
             gate,
@@ -193,6 +195,7 @@ pub fn evaluate_planned<const K: usize, R: Threads + Sync, G: Gate, L: Ledger>(
         alloc,
         &mut parts,
         plan,
+        net.twist(),
         0,
         plan.len(),
         workers,

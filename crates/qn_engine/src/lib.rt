@@ -8,6 +8,7 @@ mod known;
 mod labels;
 mod part;
 mod steps;
+mod twisting;
 
 pub use evaluation::{carry, evaluate, evaluate_planned, finished, start};
 pub use fault::EngineFault;

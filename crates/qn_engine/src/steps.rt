@@ -17,10 +17,12 @@ use crate::fault::EngineFault;
 use crate::fusing::{Fusion, fused};
 use crate::labels::{append_left, couple_places, shared_places};
 use crate::part::{Held, Part, Table, Tensor, is_odd_between, place_of, settled};
+use crate::twisting::twisted;
 use qn_block::laws::entries_of_blocks;
 use qn_block::{BlockTensor, StepFault};
 use qn_gauss::Steps;
 use qn_net::operations::{pair_step_law, trace_step_law};
+use qn_net::plans::plain_step_law;
 use qn_pair::{Gate, contract};
 use qn_plan::{Step, StepKind};
 use qn_trace::trace;
@@ -69,13 +71,14 @@ fn trace_step<'a, const K: usize>(
     alloc: Global,
     part: Part<'a, K>,
     summed: &[i64],
+    twist: &[i64],
     done: u32,
 ) -> Result<Part<'a, K>, EngineFault>
     requires few { done < 2 ^ 31 }
-    requires step { (net : NetworkValue) × IsTraceAt net done part summed.now }
-    ensures value { IfOk result (λ r. (net : NetworkValue) → IsTraceAt net done part.entry summed.now → IsMadeAt net done r) }
-    ensures clear { OnOk result ((net : NetworkValue) → IsTraceAt net done part.entry summed.now → passing_at net done ≡ None) }
-    ensures err { IfErr result (λ e. (net : NetworkValue) → IsTraceAt net done part.entry summed.now → IsPassedAt net done e) }
+    requires step { (net : NetworkValue) × IsTraceAt net done part summed.now twist.now }
+    ensures value { IfOk result (λ r. (net : NetworkValue) → IsTraceAt net done part.entry summed.now twist.now → IsMadeAt net done r) }
+    ensures clear { OnOk result ((net : NetworkValue) → IsTraceAt net done part.entry summed.now twist.now → passing_at net done ≡ None) }
+    ensures err { IfErr result (λ e. (net : NetworkValue) → IsTraceAt net done part.entry summed.now twist.now → IsPassedAt net done e) }
 {
     trace_step_law();
     entries_of_blocks();
@@ -84,7 +87,7 @@ fn trace_step<'a, const K: usize>(
         held,
         labels,
     } = part;
-    let tensor = settled(held)?;
+    let tensor = twisted(alloc, held, &labels, summed, twist, false)?;
     let a = tensor.get();
     a.known();
     let couples = couple_places(alloc, &labels, summed)?;
@@ -105,6 +108,7 @@ fn pair_step<'a, const K: usize, R: Threads + Sync, G: Gate, L: Ledger>(
     second: Part<'a, K>,
     between_odd: bool,
     summed: &[i64],
+    twist: &[i64],
     done: u32,
     workers: u32,
     gate: &G,
@@ -113,11 +117,11 @@ fn pair_step<'a, const K: usize, R: Threads + Sync, G: Gate, L: Ledger>(
     requires few { done < 2 ^ 31 }
     requires some_workers { 1 ≤ workers }
     requires few_workers { workers ≤ 64 }
-    requires step { (net : NetworkValue) × IsPairAt net done first second between_odd summed.now }
-    ensures value { IfOk result (λ r. (net : NetworkValue) → IsPairAt net done first.entry second.entry between_odd summed.now → IsMadeAt net done r) }
-    ensures clear { OnOk result ((net : NetworkValue) → IsPairAt net done first.entry second.entry between_odd summed.now → passing_at net done ≡ None) }
-    ensures err { IfErr result (λ e. (net : NetworkValue) → IsPairAt net done first.entry second.entry between_odd summed.now → IsPassedAt net done e) }
-    ensures steps { (net : NetworkValue) → IsPairAt net done first.entry second.entry between_odd summed.now →
+    requires step { (net : NetworkValue) × IsPairAt net done first second between_odd summed.now twist.now }
+    ensures value { IfOk result (λ r. (net : NetworkValue) → IsPairAt net done first.entry second.entry between_odd summed.now twist.now → IsMadeAt net done r) }
+    ensures clear { OnOk result ((net : NetworkValue) → IsPairAt net done first.entry second.entry between_odd summed.now twist.now → passing_at net done ≡ None) }
+    ensures err { IfErr result (λ e. (net : NetworkValue) → IsPairAt net done first.entry second.entry between_odd summed.now twist.now → IsPassedAt net done e) }
+    ensures steps { (net : NetworkValue) → IsPairAt net done first.entry second.entry between_odd summed.now twist.now →
         meets_condition (role_of first.entry.member) first.entry.labels summed.now ≡ false → meets_condition (role_of second.entry.member) second.entry.labels summed.now ≡ false →
         steps.new ≤ steps.old + cost_of_step net (step_at net done) }
 {
@@ -133,7 +137,7 @@ fn pair_step<'a, const K: usize, R: Threads + Sync, G: Gate, L: Ledger>(
         labels: more,
         ..
     } = second;
-    let one = settled(held)?;
+    let one = twisted(alloc, held, &labels, summed, twist, true)?;
     let two = settled(others)?;
     let a = one.get();
     a.known();
@@ -157,20 +161,22 @@ fn fuse_first<'a, const K: usize>(
     second: Part<'a, K>,
     between_odd: bool,
     summed: &[i64],
+    twist: &[i64],
 ) -> Result<Part<'a, K>, AllocError>
     requires table { table_value K table ≡ first.member }
     requires meets { meets_condition (role_of first.member) first.labels summed.now ≡ true }
-    requires step { (net : NetworkValue) × (n : ℕ) × IsPairAt net n first second between_odd summed.now }
-    ensures { IfOk result (λ r. (net : NetworkValue) (n : ℕ) → IsPairAt net n first.entry second.entry between_odd summed.now → IsMadeAt net n r) }
+    requires step { (net : NetworkValue) × (n : ℕ) × IsPairAt net n first second between_odd summed.now twist.now }
+    ensures { IfOk result (λ r. (net : NetworkValue) (n : ℕ) → IsPairAt net n first.entry second.entry between_odd summed.now twist.now → IsMadeAt net n r) }
 {
     entries_of_blocks();
+    plain_step_law();
     let Part { number, labels, .. } = first;
     let Part {
         held,
         labels: more,
         ..
     } = second;
-    let other = settled(held)?;
+    let other = twisted(alloc, held, &more, summed, twist, true)?;
     let tensor = other.get();
     tensor.known();
     let fusion = Fusion {
@@ -195,20 +201,22 @@ fn fuse_second<'a, const K: usize>(
     second: Part<'a, K>,
     between_odd: bool,
     summed: &[i64],
+    twist: &[i64],
 ) -> Result<Part<'a, K>, AllocError>
     requires table { table_value K table ≡ second.member }
     requires meets { meets_condition (role_of second.member) second.labels summed.now ≡ true }
-    requires step { (net : NetworkValue) × (n : ℕ) × IsPairAt net n first second between_odd summed.now }
-    ensures { IfOk result (λ r. (net : NetworkValue) (n : ℕ) → IsPairAt net n first.entry second.entry between_odd summed.now → IsMadeAt net n r) }
+    requires step { (net : NetworkValue) × (n : ℕ) × IsPairAt net n first second between_odd summed.now twist.now }
+    ensures { IfOk result (λ r. (net : NetworkValue) (n : ℕ) → IsPairAt net n first.entry second.entry between_odd summed.now twist.now → IsMadeAt net n r) }
 {
     entries_of_blocks();
+    plain_step_law();
     let Part {
         number,
         held,
         labels,
     } = first;
     let Part { labels: more, .. } = second;
-    let other = settled(held)?;
+    let other = twisted(alloc, held, &labels, summed, twist, true)?;
     let tensor = other.get();
     tensor.known();
     let fusion = Fusion {
@@ -233,6 +241,7 @@ fn join_step<'a, const K: usize, R: Threads + Sync, G: Gate, L: Ledger>(
     second: Part<'a, K>,
     between_odd: bool,
     summed: &[i64],
+    twist: &[i64],
     done: u32,
     workers: u32,
     gate: &G,
@@ -241,21 +250,21 @@ fn join_step<'a, const K: usize, R: Threads + Sync, G: Gate, L: Ledger>(
     requires few { done < 2 ^ 31 }
     requires some_workers { 1 ≤ workers }
     requires few_workers { workers ≤ 64 }
-    requires step { (net : NetworkValue) × IsPairAt net done first second between_odd summed.now }
-    ensures value { IfOk result (λ r. (net : NetworkValue) → IsPairAt net done first.entry second.entry between_odd summed.now → IsMadeAt net done r) }
-    ensures clear { OnOk result ((net : NetworkValue) → IsPairAt net done first.entry second.entry between_odd summed.now → AreClear net done → passing_at net done ≡ None) }
-    ensures err { IfErr result (λ e. (net : NetworkValue) → IsPairAt net done first.entry second.entry between_odd summed.now → IsPassedAt net done e) }
-    ensures steps { (net : NetworkValue) → IsPairAt net done first.entry second.entry between_odd summed.now → steps.new ≤ steps.old + cost_of_step net (step_at net done) }
+    requires step { (net : NetworkValue) × IsPairAt net done first second between_odd summed.now twist.now }
+    ensures value { IfOk result (λ r. (net : NetworkValue) → IsPairAt net done first.entry second.entry between_odd summed.now twist.now → IsMadeAt net done r) }
+    ensures clear { OnOk result ((net : NetworkValue) → IsPairAt net done first.entry second.entry between_odd summed.now twist.now → AreClear net done → passing_at net done ≡ None) }
+    ensures err { IfErr result (λ e. (net : NetworkValue) → IsPairAt net done first.entry second.entry between_odd summed.now twist.now → IsPassedAt net done e) }
+    ensures steps { (net : NetworkValue) → IsPairAt net done first.entry second.entry between_odd summed.now twist.now → steps.new ≤ steps.old + cost_of_step net (step_at net done) }
 {
     match first.table(summed) {
         Some(table) => {
-            return Ok(fuse_first(alloc, table, first, second, between_odd, summed)?);
+            return Ok(fuse_first(alloc, table, first, second, between_odd, summed, twist)?);
         }
         None => {}
     }
     match second.table(summed) {
         Some(table) => {
-            return Ok(fuse_second(alloc, table, first, second, between_odd, summed)?);
+            return Ok(fuse_second(alloc, table, first, second, between_odd, summed, twist)?);
         }
         None => {}
     }
@@ -266,6 +275,7 @@ fn join_step<'a, const K: usize, R: Threads + Sync, G: Gate, L: Ledger>(
         second,
         between_odd,
         summed,
+        twist,
         done,
         workers,
         gate,
@@ -278,17 +288,18 @@ fn take_trace<'a, const K: usize>(
     alloc: Global,
     parts: &mut Vec<Part<'a, K>>,
     step: &Step,
+    twist: &[i64],
     done: u32,
 ) -> Result<(), EngineFault>
     requires few { done < 2 ^ 31 }
     requires kind { step.now.kind ≡ trace_kind }
-    requires step { (net : NetworkValue) × IsNext net done parts.old.items step.now }
-    ensures carried { OnOk result ((net : NetworkValue) → IsNext net done parts.old.items step.now → IsCarried net (done + 1) parts.new.items) }
-    ensures err { IfErr result (λ e. (net : NetworkValue) → IsNext net done parts.old.items step.now → IsEngineFault net e) }
+    requires step { (net : NetworkValue) × IsNext net done parts.old.items step.now twist.now }
+    ensures carried { OnOk result ((net : NetworkValue) → IsNext net done parts.old.items step.now twist.now → IsCarried net (done + 1) parts.new.items) }
+    ensures err { IfErr result (λ e. (net : NetworkValue) → IsNext net done parts.old.items step.now twist.now → IsEngineFault net e) }
 {
     let place = place_of(parts, step.first);
     let part = parts.remove(place);
-    let result = match trace_step(alloc, part, &step.labels, done) {
+    let result = match trace_step(alloc, part, &step.labels, twist, done) {
         Ok(result) => result,
         Err(fault) => return Err(fault),
     };
@@ -302,6 +313,7 @@ fn take_pair<'a, const K: usize, R: Threads + Sync, G: Gate, L: Ledger>(
     alloc: Global,
     parts: &mut Vec<Part<'a, K>>,
     step: &Step,
+    twist: &[i64],
     done: u32,
     workers: u32,
     gate: &G,
@@ -311,9 +323,9 @@ fn take_pair<'a, const K: usize, R: Threads + Sync, G: Gate, L: Ledger>(
     requires some_workers { 1 ≤ workers }
     requires few_workers { workers ≤ 64 }
     requires kind { step.now.kind ≢ trace_kind }
-    requires step { (net : NetworkValue) × IsNext net done parts.old.items step.now }
-    ensures carried { OnOk result ((net : NetworkValue) → IsNext net done parts.old.items step.now → IsCarried net (done + 1) parts.new.items) }
-    ensures err { IfErr result (λ e. (net : NetworkValue) → IsNext net done parts.old.items step.now → IsEngineFault net e) }
+    requires step { (net : NetworkValue) × IsNext net done parts.old.items step.now twist.now }
+    ensures carried { OnOk result ((net : NetworkValue) → IsNext net done parts.old.items step.now twist.now → IsCarried net (done + 1) parts.new.items) }
+    ensures err { IfErr result (λ e. (net : NetworkValue) → IsNext net done parts.old.items step.now twist.now → IsEngineFault net e) }
     ensures steps { steps.new ≤ steps.old + step.now.cost }
 {
     let i = place_of(parts, step.first);
@@ -328,6 +340,7 @@ fn take_pair<'a, const K: usize, R: Threads + Sync, G: Gate, L: Ledger>(
         second,
         between_odd,
         &step.labels,
+        twist,
         done,
         workers,
         gate,
@@ -346,6 +359,7 @@ pub(crate) fn take_step<'a, const K: usize, R: Threads + Sync, G: Gate, L: Ledge
     alloc: Global,
     parts: &mut Vec<Part<'a, K>>,
     step: &Step,
+    twist: &[i64],
     done: u32,
     workers: u32,
     gate: &G,
@@ -354,15 +368,15 @@ pub(crate) fn take_step<'a, const K: usize, R: Threads + Sync, G: Gate, L: Ledge
     requires few { done < 2 ^ 31 }
     requires some_workers { 1 ≤ workers }
     requires few_workers { workers ≤ 64 }
-    requires step { (net : NetworkValue) × IsNext net done parts.old.items step.now }
-    ensures carried { OnOk result ((net : NetworkValue) → IsNext net done parts.old.items step.now → IsCarried net (done + 1) parts.new.items) }
-    ensures err { IfErr result (λ e. (net : NetworkValue) → IsNext net done parts.old.items step.now → IsEngineFault net e) }
+    requires step { (net : NetworkValue) × IsNext net done parts.old.items step.now twist.now }
+    ensures carried { OnOk result ((net : NetworkValue) → IsNext net done parts.old.items step.now twist.now → IsCarried net (done + 1) parts.new.items) }
+    ensures err { IfErr result (λ e. (net : NetworkValue) → IsNext net done parts.old.items step.now twist.now → IsEngineFault net e) }
     ensures steps { steps.new ≤ steps.old + step.now.cost }
 {
     match step.kind {
-        StepKind::Trace => take_trace(alloc, parts, step, done),
+        StepKind::Trace => take_trace(alloc, parts, step, twist, done),
         StepKind::Pair | StepKind::Fuse => {
-            take_pair(rt, alloc, parts, step, done, workers, gate, steps)
+            take_pair(rt, alloc, parts, step, twist, done, workers, gate, steps)
         }
     }
 }

@@ -87,13 +87,13 @@ module _ (bra ket : ChainValue) (hb : IsHeld bra) (hk : IsHeld ket) (kb : bra.ki
         faultless = law bra.sites bra.tensors cs ket.tensors hb.few (as_state bra bra.sites hb kb refl) made.1 (as_state ket bra.sites hk kk s);
       })
 
-  pub overlap_is : (n : NetworkValue) → n ≡ network_of fs ms None → IsOverlapNetwork bra.group bra.tensors ket.tensors n
-  overlap_is n q = (made.0, made.1, q ∙ ap₂ (λ (gs : List Factor) (xs : List LabelledMember). network_of gs xs None) e made.2)
+  pub overlap_is : (n : NetworkValue) → n ≡ network_of fs ms None [] → IsOverlapNetwork bra.group bra.tensors ket.tensors n
+  overlap_is n q = (made.0, made.1, q ∙ ap₂ (λ (gs : List Factor) (xs : List LabelledMember). network_of gs xs None []) e made.2)
 
-  pub overlap_value : OverlapNetworkLaw → (n : NetworkValue) → n ≡ network_of fs ms None → value n [] ≡ overlap bra.group bra.sites bra.tensors ket.tensors
+  pub overlap_value : OverlapNetworkLaw → (n : NetworkValue) → n ≡ network_of fs ms None [] → value n [] ≡ overlap bra.group bra.sites bra.tensors ket.tensors
   overlap_value law n q = law bra.group bra.sites bra.tensors ket.tensors n (as_state bra bra.sites hb kb refl) (as_state ket bra.sites hk kk s) (overlap_is n q)
 
-  pub overlap_flux : OverlapFluxLaw → (n : NetworkValue) → n ≡ network_of fs ms None →
+  pub overlap_flux : OverlapFluxLaw → (n : NetworkValue) → n ≡ network_of fs ms None [] →
       network_flux n ≡ sum_charge bra.group (chain_flux bra.group ket.tensors) (neg_charge bra.group (chain_flux bra.group bra.tensors))
   overlap_flux law n q = law bra.group bra.tensors ket.tensors n hb.group (same_group bra bra.group refl hb) (overlap_is n q)
 
@@ -132,21 +132,21 @@ module _ (bra op ket : ChainValue) (hb : IsHeld bra) (ho : IsHeld op) (hk : IsHe
             law bra.sites bra.tensors cs op.tensors ket.tensors hb.few (as_state bra bra.sites hb kb refl) made.1 (as_operator op bra.sites ho ko so) (as_state ket bra.sites hk kk s);
       })
 
-  pub expect_is : (n : NetworkValue) → n ≡ network_of fs ms None → IsExpectNetwork bra.group bra.tensors op.tensors ket.tensors n
-  expect_is n q = (made.0, made.1, q ∙ ap₂ (λ (gs : List Factor) (xs : List LabelledMember). network_of gs xs None) e made.2)
+  pub expect_is : (n : NetworkValue) → n ≡ network_of fs ms None [] → IsExpectNetwork bra.group bra.tensors op.tensors ket.tensors n
+  expect_is n q = (made.0, made.1, q ∙ ap₂ (λ (gs : List Factor) (xs : List LabelledMember). network_of gs xs None []) e made.2)
 
-  pub expect_value : ExpectNetworkLaw → (n : NetworkValue) → n ≡ network_of fs ms None →
+  pub expect_value : ExpectNetworkLaw → (n : NetworkValue) → n ≡ network_of fs ms None [] →
       value n [] ≡ expectation bra.group bra.sites (element bra.group op.tensors) bra.tensors ket.tensors
   expect_value law n q =
       law bra.group bra.sites bra.tensors op.tensors ket.tensors n (as_state bra bra.sites hb kb refl) (as_operator op bra.sites ho ko so) (as_state ket bra.sites hk kk s) (expect_is n q)
 
-  pub expect_flux : ExpectFluxLaw → (n : NetworkValue) → n ≡ network_of fs ms None →
+  pub expect_flux : ExpectFluxLaw → (n : NetworkValue) → n ≡ network_of fs ms None [] →
       network_flux n ≡ sum_charge bra.group (sum_charge bra.group (chain_flux bra.group op.tensors) (chain_flux bra.group ket.tensors)) (neg_charge bra.group (chain_flux bra.group bra.tensors))
   expect_flux law n q = law bra.group bra.tensors op.tensors ket.tensors n hb.group (same_group bra bra.group refl hb) (expect_is n q)
 
 -- a chain alone
 
-chain_faultless : ChainFaultlessLaw → (kind : ChainKind) (sites : List LegValue) (ts : List BlockedValue) → length sites ≤ 64 → IsChain (legs_of kind) sites ts → IsFaultless (members_of_kind kind ts) None
+chain_faultless : ChainFaultlessLaw → (kind : ChainKind) (sites : List LegValue) (ts : List BlockedValue) → length sites ≤ 64 → IsChain (legs_of kind) sites ts → IsFaultless (members_of_kind kind ts) None []
 chain_faultless law State sites ts l h = (law sites ts l).0 h
 chain_faultless law Operator sites ts l h = (law sites ts l).1 h
 

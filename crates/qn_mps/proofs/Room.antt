@@ -30,7 +30,7 @@ pub record IsReady (fs : List Factor) (ms : List LabelledMember) : Type 0 where
   pub some : 0 < length ms
   pub few : length ms ≤ 256
   pub members : All (IsMemberOf fs) ms
-  pub faultless : IsFaultless ms None
+  pub faultless : IsFaultless ms None []
 
 -- with labels they are members
 

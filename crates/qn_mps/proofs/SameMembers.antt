@@ -130,7 +130,7 @@ value_by fs ss ns xs =
     let opens : List End = opens_of (ends ss) (open_count (ends ss)) in
     flat (parity_of fs ss) ns (bonds_of [] ss) opens (at_values opens xs)
 
-same_network : (fs : List Factor) (ms ns : List LabelledMember) → AreSame ms ns → IsSameNetwork (network_of fs ms None) (network_of fs ns None)
+same_network : (fs : List Factor) (ms ns : List LabelledMember) → AreSame ms ns → IsSameNetwork (network_of fs ms None []) (network_of fs ns None [])
 same_network fs ms ns h =
     let order : positives (ends_of_members ms) ≡ positives (ends_of_members ns) = ap (λ (ss : List Slot). positives (ends ss)) (same_slots ms ns h) in
     let legs = same_legs ms ns h in

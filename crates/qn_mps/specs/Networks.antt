@@ -1,5 +1,5 @@
 -- The networks of chains as they are held.
-use Rattle.std.specs.Prelude.{◌≡◌, ℕ, ℤ, None, List, ◌++◌, reverse}
+use Rattle.std.specs.Prelude.{◌≡◌, ℕ, ℤ, None, List, [], ◌++◌, reverse}
 use Rattle.qn_block.specs.Blocked.{BlockedValue, IsConjugate, tensor_of}
 use Rattle.qn_net.specs.Members.{LabelledMember}
 use Rattle.qn_net.specs.Members.MemberValue.{own}
@@ -20,7 +20,7 @@ chain_members c = members_of_kind c.kind c.tensors
 
 -- the network of a chain alone, whose values are a state's amplitudes, or an operator's matrix elements
 abbrev pub chain_network : ChainValue → NetworkValue
-chain_network c = network_of c.group (chain_members c) None
+chain_network c = network_of c.group (chain_members c) None []
 
 -- the conjugate of a tensor, with these labels in reversed order
 abbrev pub IsConjugateMember : BlockedValue → List ℤ → LabelledMember → Type 0

@@ -138,7 +138,7 @@ fn expect_members<const K: usize>(
     Ok(members)
 }
 
-/// The network of members whose labels have no fault. The positive labels are taken ascending.
+/// The network of members whose labels have no fault. The positive labels are taken ascending, and none is twisted.
 fn faultless_network<const K: usize>(
     group: Group<K>,
     members: Vec<NetTensor<K>>,
@@ -146,12 +146,12 @@ fn faultless_network<const K: usize>(
     requires some { 0 < length members.items }
     requires few { length members.items ≤ 256 }
     requires members { All (IsMemberOf group) members.items }
-    requires faultless { IsFaultless members.items None }
-    ensures { IfOk result (λ n. n ≡ network_of group.entry members.entry.items None) }
+    requires faultless { IsFaultless members.items None [] }
+    ensures { IfOk result (λ n. n ≡ network_of group.entry members.entry.items None []) }
 {
     no_fault_law();
     let alloc = *members.allocator();
-    match Network::new(alloc, group, members, None) {
+    match Network::new(alloc, group, members, None, Vec::new(alloc)) {
         Ok(network) => Ok(network),
         Err(NetFault::Memory) => Err(AllocError),
         Err(_) => unreachable!(),

@@ -31,7 +31,7 @@ use Rattle.qn_value.proofs.TensorBlocks.{bonds_sectors}
 use Rattle.qn_value.proofs.CoupledLemmas.{word_of, leg_at, end_at, slots_with, coupled_law}
 use Rattle.qn_value.proofs.OpenLegs.{open_places, opens_coupled, open_legs_at, coupled_network}
 use Rattle.qn_value.proofs.OperationLaw.{operation_law}
-use Rattle.qn_net.specs.Operations.{AreLines, parities_on}
+use Rattle.qn_net.specs.Operations.{AreTwistedLines, AreLines, parities_on}
 use Rattle.qn_net.proofs.Held.{AreNodesOf, all_alike, all_legs, all_labels, sectors_on_lines}
 use Rattle.qn_net.proofs.Renaming.{map-positions, names_at, name_at, renamed_with}
 
@@ -49,37 +49,37 @@ renamed_sectors f names [] ls h = tt
 renamed_sectors f names (g ∷ gs) [] h = tt
 renamed_sectors f names (g ∷ gs) (l ∷ ls) h = (h.0, renamed_sectors f names gs ls h.1)
 
--- lines without twists
-abbrev pub AreUntwisted : List Bond → Type 0
-AreUntwisted [] = Unit {0}
-AreUntwisted (b ∷ bs) = (b.twisted ≡ false) × AreUntwisted bs
+-- lines that are twisted where their labels are among these
+abbrev pub AreMarked : List ℤ → List Bond → Type 0
+AreMarked tw [] = Unit {0}
+AreMarked tw (b ∷ bs) = (b.twisted ≡ is_in int_eq b.label tw) × AreMarked tw bs
 
-placed_untwisted : (b : Bond) (bs : List Bond) → b.twisted ≡ false → AreUntwisted bs → AreUntwisted (place_bond b bs)
-placed_untwisted b [] e h = (e, tt)
-placed_untwisted b (c ∷ cs) e h = go (int_lt b.label c.label) (placed_untwisted b cs e h.1)
+placed_marked : (tw : List ℤ) (b : Bond) (bs : List Bond) → b.twisted ≡ is_in int_eq b.label tw → AreMarked tw bs → AreMarked tw (place_bond b bs)
+placed_marked tw b [] e h = (e, tt)
+placed_marked tw b (c ∷ cs) e h = go (int_lt b.label c.label) (placed_marked tw b cs e h.1)
   where
-    go : (t : Bool) → AreUntwisted (place_bond b cs) → AreUntwisted (cond t (b ∷ c ∷ cs) (c ∷ place_bond b cs))
+    go : (t : Bool) → AreMarked tw (place_bond b cs) → AreMarked tw (cond t (b ∷ c ∷ cs) (c ∷ place_bond b cs))
     go true k = (e, h)
     go false k = (h.0, k)
 
-ordered_untwisted : (bs : List Bond) → AreUntwisted bs → AreUntwisted (in_label_order bs)
-ordered_untwisted [] h = tt
-ordered_untwisted (b ∷ bs) h = placed_untwisted b (in_label_order bs) h.0 (ordered_untwisted bs h.1)
+ordered_marked : (tw : List ℤ) (bs : List Bond) → AreMarked tw bs → AreMarked tw (in_label_order bs)
+ordered_marked tw [] h = tt
+ordered_marked tw (b ∷ bs) h = placed_marked tw b (in_label_order bs) h.0 (ordered_marked tw bs h.1)
 
-from_untwisted : (ss : List Slot) → AreUntwisted (bonds_from [] ss)
-from_untwisted [] = tt
-from_untwisted (s ∷ ss) = go (s.end.inward && is_positive s.end.label) (from_untwisted ss)
+from_marked : (tw : List ℤ) (ss : List Slot) → AreMarked tw (bonds_from tw ss)
+from_marked tw [] = tt
+from_marked tw (s ∷ ss) = go (s.end.inward && is_positive s.end.label) (from_marked tw ss)
   where
-    go : (b : Bool) → AreUntwisted (bonds_from [] ss) → AreUntwisted (cond b (bond_at [] s ∷ bonds_from [] ss) (bonds_from [] ss))
+    go : (b : Bool) → AreMarked tw (bonds_from tw ss) → AreMarked tw (cond b (bond_at tw s ∷ bonds_from tw ss) (bonds_from tw ss))
     go true k = (refl, k)
     go false k = k
 
-pub bonds_untwisted : (ss : List Slot) → AreUntwisted (bonds_of [] ss)
-bonds_untwisted ss = ordered_untwisted (bonds_from [] ss) (from_untwisted ss)
+pub bonds_marked : (tw : List ℤ) (ss : List Slot) → AreMarked tw (bonds_of tw ss)
+bonds_marked tw ss = ordered_marked tw (bonds_from tw ss) (from_marked tw ss)
 
-pub lines_from : (f : ℤ → List SectorValue) (bs : List Bond) → HaveSectors f bs → AreUntwisted bs → AreLines f bs
-lines_from f [] h u = tt
-lines_from f (b ∷ bs) h u = (h.0, u.0, lines_from f bs h.1 u.1)
+pub lines_from : (tw : List ℤ) (f : ℤ → List SectorValue) (bs : List Bond) → HaveSectors f bs → AreMarked tw bs → AreTwistedLines tw f bs
+lines_from tw f [] h u = tt
+lines_from tw f (b ∷ bs) h u = (h.0, u.0, lines_from tw f bs h.1 u.1)
 
 renamed_lines : (f h : ℤ → List SectorValue) (names : ℤ → ℤ) (bs : List Bond) → AreLines f bs → ((e : End) → is_in same_end e (pairs_of bs) ≡ true → f e.label ≡ h (names e.label)) →
     AreLines h (map (relabel_bond names) bs)
@@ -280,7 +280,7 @@ module _ (fs : List Factor) (sectors : ℤ → List SectorValue) (ps : List Plac
       let e : IsDistinct same_end (goal bonds (kept ns bonds)) = distinct-perm same_end end_test net.complete net.distinct in
       same_lines sectors (map (relabel_bond names) local_bonds) bonds
       (renamed_lines (sectors_on (slots (coupled ts cs))) sectors names local_bonds
-      (lines_from (sectors_on (slots (coupled ts cs))) local_bonds (bonds_sectors (sectors_on (slots (coupled ts cs))) [] (slots (coupled ts cs)) own_sectors) (bonds_untwisted (slots (coupled ts cs))))
+      (lines_from [] (sectors_on (slots (coupled ts cs))) local_bonds (bonds_sectors (sectors_on (slots (coupled ts cs))) [] (slots (coupled ts cs)) own_sectors) (bonds_marked [] (slots (coupled ts cs))))
       (λ x i. sectors_same x (is_in-perm same_end x local_net.complete ∙ is_in-append same_end x (pairs_of local_bonds) local_opens ∙ or_left (is_in same_end x (pairs_of local_bonds)) (is_in same_end x local_opens) i)))
       lines
       (distinct_first same_end (pairs_of (map (relabel_bond names) local_bonds)) (kept ns bonds) d)

@@ -1,5 +1,5 @@
 -- The first steps of a network.
-use Rattle.std.proofs.Common.{◌≡◌, List, [], ◌∷◌, ◌++◌, subst, map}
+use Rattle.std.proofs.Common.{List, [], ◌∷◌, ◌++◌, subst, map}
 use Rattle.qn_value.specs.Networks.{End, Parities}
 use Rattle.qn_net.specs.Steps.{Step, State, after}
 use Rattle.qn_net.specs.Carried.{IsSoundState, AllSound}

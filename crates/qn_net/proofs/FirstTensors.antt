@@ -10,8 +10,8 @@ use Rattle.qn_value.proofs.PlacedLemmas.{HaveSectorsOn, sectors_fit, on_first, o
 use Rattle.qn_value.proofs.TensorBlocks.{legs_by_ends, bonds_sectors}
 use Rattle.qn_net.specs.Plans.{start}
 use Rattle.qn_net.specs.NetworkValues.{PlacedMember, legs_of, sectors, member_of}
-use Rattle.qn_net.specs.Operations.{AreTensorsOf, IsNodeOf, AreLines, FirstTensorsLaw}
-use Rattle.qn_net.proofs.CoupledNodes.{bonds_untwisted, lines_from}
+use Rattle.qn_net.specs.Operations.{AreTensorsOf, IsNodeOf, FirstTensorsLaw}
+use Rattle.qn_net.proofs.CoupledNodes.{bonds_marked, lines_from}
 
 labels_of_slots : (gs : List LegValue) (ls : List ℤ) → length ls ≡ length gs → ls ≡ map (λ (e : End). e.label) (ends (slots_of gs ls))
 labels_of_slots [] [] n = refl
@@ -44,6 +44,5 @@ pub first_tensors : FirstTensorsLaw
 first_tensors net w =
     let fit : HaveSectorsOn (sectors net) (legs_of net) = sectors_fit (legs_of net) w.uniform in (
       start_tensors net.group (sectors net) net.members w.placed fit 1,
-      (λ plain. subst (λ tw. AreLines (sectors net) (bonds_of tw (legs_of net))) (sym plain)
-          (lines_from (sectors net) (bonds_of [] (legs_of net)) (bonds_sectors (sectors net) [] (legs_of net) fit) (bonds_untwisted (legs_of net)))),
+      lines_from net.twists (sectors net) (bonds_of net.twists (legs_of net)) (bonds_sectors (sectors net) net.twists (legs_of net) fit) (bonds_marked net.twists (legs_of net)),
     )

@@ -496,7 +496,7 @@ fuse_entry_law fs sectors opens s before g between h behind bonds left c p q us 
     net = local_pair (parities_on fs sectors) opens before g between h behind s.left bonds left (subst (λ gs. IsNetwork (nodes gs) s.left opens) at.0 sound.network) at.1 at.2
 
     plain : AreLines sectors bonds
-    plain = lines_first sectors bonds left (lines_perm sectors at.1 lines)
+    plain = lines_first [] sectors bonds left (lines_perm [] sectors at.1 lines)
 
     by : IsFusedAt c bonds g p us ⊎ IsFusedAt c bonds h q vs → Result fs sectors g.node h.node p q hp hq bonds net plain db us vs ru rv
     by (inl f) = by_first fs sectors g.node h.node p q hp hq bonds net plain db us vs ru rv (table_single fs sectors p g.node hp dg bonds at.3 c hc g.role f.0 f.1) m f.2

@@ -20,7 +20,7 @@ use Rattle.qn_value.proofs.PlacedLemmas.{all_first, all_others, HaveSectorsOn}
 use Rattle.qn_value.proofs.NetLaws.{end_test}
 use Rattle.qn_net.specs.Operations.{IsNodeOf}
 
-arrow_there : (b : Bool) → is_inward (arrow_of b) ≡ b
+pub arrow_there : (b : Bool) → is_inward (arrow_of b) ≡ b
 arrow_there true = refl
 arrow_there false = refl
 

@@ -8,7 +8,7 @@ use Rattle.qn_value.specs.Networks.{End}
 use Rattle.qn_value.specs.Labels.{slots_of, ends}
 use Rattle.qn_net.specs.Members.{LabelledMember, member_tensor, slots_of_members, ends_of_members}
 use Rattle.qn_net.specs.declared.fault.NetFault.{NetFault}
-use Rattle.qn_net.specs.declared.fault.NetFault.TheVariants.{LabelArity, LabelRange, LabelCount, Arrow, Sectors, OpenLabels, Order, Memory}
+use Rattle.qn_net.specs.declared.fault.NetFault.TheVariants.{LabelArity, LabelRange, LabelCount, Arrow, Sectors, OpenLabels, Order, Twist, Memory}
 use Rattle.qn_net.specs.Refusals.{IsLabel, BadLabelAt, HaveLabels, AreLabelled, IsChoiceFault, IsNetFault}
 use Rattle.qn_net.specs.Tables.{HasLabel}
 use Rattle.std.proofs.lemmas.List.{map-append}
@@ -69,20 +69,22 @@ pub have_labels : (ms : List LabelledMember) → HaveLabels ms → All HasLabel 
 have_labels ms h = all_labels-all (ends_of_members ms) (labels_of_members ms h)
 
 -- where the labels have no fault, that of the order is the first one
-pub choice_fault : (ms : List LabelledMember) (order : Option (List ℤ)) (f : NetFault) → AreLabelled ms → IsChoiceFault (ends_of_members ms) order f → IsNetFault ms order f
-choice_fault ms (Some order) (Order place) l h = (l, h)
-choice_fault ms None (Order place) l h = h
-choice_fault ms None Memory l h = tt
-choice_fault ms (Some order) Memory l h = tt
-choice_fault ms None (LabelArity t) l h = absurd h
-choice_fault ms (Some order) (LabelArity t) l h = absurd h
-choice_fault ms None (LabelRange t j) l h = absurd h
-choice_fault ms (Some order) (LabelRange t j) l h = absurd h
-choice_fault ms None (LabelCount k) l h = absurd h
-choice_fault ms (Some order) (LabelCount k) l h = absurd h
-choice_fault ms None (Arrow k) l h = absurd h
-choice_fault ms (Some order) (Arrow k) l h = absurd h
-choice_fault ms None (Sectors k) l h = absurd h
-choice_fault ms (Some order) (Sectors k) l h = absurd h
-choice_fault ms None (OpenLabels k) l h = absurd h
-choice_fault ms (Some order) (OpenLabels k) l h = absurd h
+pub choice_fault : (ms : List LabelledMember) (order : Option (List ℤ)) (twist : List ℤ) (f : NetFault) → AreLabelled ms → IsChoiceFault (ends_of_members ms) order f → IsNetFault ms order twist f
+choice_fault ms (Some order) twist (Order place) l h = (l, h)
+choice_fault ms None twist (Order place) l h = h
+choice_fault ms None twist Memory l h = tt
+choice_fault ms (Some order) twist Memory l h = tt
+choice_fault ms None twist (LabelArity t) l h = absurd h
+choice_fault ms (Some order) twist (LabelArity t) l h = absurd h
+choice_fault ms None twist (LabelRange t j) l h = absurd h
+choice_fault ms (Some order) twist (LabelRange t j) l h = absurd h
+choice_fault ms None twist (LabelCount k) l h = absurd h
+choice_fault ms (Some order) twist (LabelCount k) l h = absurd h
+choice_fault ms None twist (Arrow k) l h = absurd h
+choice_fault ms (Some order) twist (Arrow k) l h = absurd h
+choice_fault ms None twist (Sectors k) l h = absurd h
+choice_fault ms (Some order) twist (Sectors k) l h = absurd h
+choice_fault ms None twist (OpenLabels k) l h = absurd h
+choice_fault ms (Some order) twist (OpenLabels k) l h = absurd h
+choice_fault ms None twist (Twist place) l h = absurd h
+choice_fault ms (Some order) twist (Twist place) l h = absurd h

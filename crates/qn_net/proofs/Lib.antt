@@ -6,6 +6,8 @@ pub mod PlanTrace
 pub mod PlanFind
 pub mod PlanLemmas
 pub mod PlanTwist
+pub mod PlainSteps
+pub mod AllTwisted
 pub mod PassLemmas
 pub mod PassingLemmas
 pub mod NetworkLemmas

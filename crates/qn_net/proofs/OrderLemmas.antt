@@ -84,6 +84,16 @@ bad_place es h order i seen l f none = (l, go (label_at order i) refl)
         by (inl z) = inl (subst (IsNoPositive es) (sym e) z)
         by (inr s) = inr (met s (get_or seen n false) refl)
 
+-- what is no number of a label that stands is no positive label
+pub no_positive : (es : List End) → All HasLabel es → (l : ℤ) → ((n : ℕ) → 0 < n → n ≤ 1024 → l ≡ pos n → ⊥) → IsNoPositive es l
+no_positive es h (negsuc n) none = tt
+no_positive es h (pos n) none = by (cases_eq n 0) (cases_lt 1024 n)
+  where
+    by : (n ≡ 0) ⊎ (n ≢ 0) → (1024 < n) ⊎ (n ≤ 1024) → legs_with (pos n) es ≡ 0
+    by (inl z) q = ap (λ k. legs_with (pos k) es) z ∙ none_zero es h
+    by (inr z) (inl g) = none_above es h n g
+    by (inr z) (inr g) = absurd (none n (omega (arith, z)) g refl)
+
 -- at the end: a label that stands and was not met is lacking
 pub lacking : (es : List End) (order : List ℤ) (seen : List Bool) → IsSeen order seen →
     (n : ℕ) × (0 < n) × (n ≤ 1024) × (0 < legs_with (pos n) es) × (get_or seen n false ≡ false) → LacksLabel es order

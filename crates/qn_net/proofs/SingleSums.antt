@@ -1,9 +1,9 @@
 -- Sums of which one summand counts.
-use Rattle.std.proofs.Common.{◌≡◌, ◌≤◌, ℕ, zero, suc, ◌+◌, ◌*◌, ◌==◌, ℤ, Bool, true, false, ◌&&◌, ◌||◌, cond, List, [], ◌∷◌, refl, sym, ◌∙◌, ap, ap₂, subst, map, ◌⊎◌, inl, inr, int_eq, eqb-true, eq-eqb, arith}
+use Rattle.std.proofs.Common.{◌≡◌, ◌≤◌, ℕ, zero, suc, ◌*◌, ℤ, Bool, true, false, ◌&&◌, ◌||◌, cond, List, [], ◌∷◌, refl, sym, ◌∙◌, ap, subst, map, ◌⊎◌, inl, inr, int_eq, eq-eqb, arith}
 use Rattle.std.proofs.lemmas.Bool.{or_left, or_right, false≢true}
 use Rattle.qn_sign.specs.Sign.{is_in, IsDistinct}
 use Rattle.qn_value.specs.Networks.{End, Bond, Assignment, assign, in_end, out_end, labels, values, at_values}
-use Rattle.qn_value.specs.Magnitudes.{total_below, total, IsAt}
+use Rattle.qn_value.specs.Magnitudes.{total, IsAt}
 use Rattle.qn_value.proofs.Sums.{label_test, Meets, assign_both}
 use Rattle.qn_value.proofs.MagnitudeLemmas.{total_zero}
 use Rattle.qn_value.proofs.MagnitudeLemmas.{below_one}

@@ -29,7 +29,7 @@ use Rattle.qn_value.proofs.RowsLemmas.{values_back}
 use Rattle.qn_value.proofs.BoundsLemmas.{contract_bounded}
 use Rattle.qn_value.proofs.CoupledLemmas.{word_of}
 use Rattle.qn_net.specs.Refusals.{label_at}
-use Rattle.qn_net.specs.Operations.{parities_on, labels_left, IsNodeOf, AreLines, AreCouplesOf, ArePairsOf}
+use Rattle.qn_net.specs.Operations.{parities_on, labels_left, IsNodeOf, AreTwistedLines, AreLines, AreCouplesOf, ArePairsOf}
 use Rattle.qn_net.proofs.PlanSteps.{signed_node}
 use Rattle.qn_net.proofs.Held.{AreNodesOf, IsBeyond, entry_range, range_of, dims, all_bounded, all_labels, labels_kept}
 use Rattle.qn_net.proofs.CoupledNodes.{label_in, longs, IsCoupledBy, local, local_bonds, local_opens, names, alike, apart, local_net, bonds_are, opens_are, open_legs_are, same_entry}
@@ -110,21 +110,21 @@ module _ (fs : List Factor) (sectors : ℤ → List SectorValue) (ps : List Plac
           ∙ contract_bounded (dims fs sectors) (parities_on fs sectors) ns bonds (kept ns bonds) net (all_bounded fs sectors ps ns held) (at_values (kept ns bonds) xs) w.0 w.1 w.2)
           ∙ signed-zero s)
 
--- plain lines in another order, and some of them
+-- lines in another order, and some of them
 
-pub lines_perm : (sectors : ℤ → List SectorValue) {bs cs : List Bond} → Perm bs cs → AreLines sectors bs → AreLines sectors cs
-lines_perm sectors none h = h
-lines_perm sectors (keep p) h = (h.0, h.1, lines_perm sectors p h.2)
-lines_perm sectors swap h = (h.2.0, h.2.1, (h.0, h.1, h.2.2))
-lines_perm sectors (then_by p q) h = lines_perm sectors q (lines_perm sectors p h)
+pub lines_perm : (tw : List ℤ) (sectors : ℤ → List SectorValue) {bs cs : List Bond} → Perm bs cs → AreTwistedLines tw sectors bs → AreTwistedLines tw sectors cs
+lines_perm tw sectors none h = h
+lines_perm tw sectors (keep p) h = (h.0, h.1, lines_perm tw sectors p h.2)
+lines_perm tw sectors swap h = (h.2.0, h.2.1, (h.0, h.1, h.2.2))
+lines_perm tw sectors (then_by p q) h = lines_perm tw sectors q (lines_perm tw sectors p h)
 
-pub lines_first : (sectors : ℤ → List SectorValue) (bs cs : List Bond) → AreLines sectors (bs ++ cs) → AreLines sectors bs
-lines_first sectors [] cs h = tt
-lines_first sectors (b ∷ bs) cs h = (h.0, h.1, lines_first sectors bs cs h.2)
+pub lines_first : (tw : List ℤ) (sectors : ℤ → List SectorValue) (bs cs : List Bond) → AreTwistedLines tw sectors (bs ++ cs) → AreTwistedLines tw sectors bs
+lines_first tw sectors [] cs h = tt
+lines_first tw sectors (b ∷ bs) cs h = (h.0, h.1, lines_first tw sectors bs cs h.2)
 
-pub lines_second : (sectors : ℤ → List SectorValue) (bs cs : List Bond) → AreLines sectors (bs ++ cs) → AreLines sectors cs
-lines_second sectors [] cs h = h
-lines_second sectors (b ∷ bs) cs h = lines_second sectors bs cs h.2
+pub lines_second : (tw : List ℤ) (sectors : ℤ → List SectorValue) (bs cs : List Bond) → AreTwistedLines tw sectors (bs ++ cs) → AreTwistedLines tw sectors cs
+lines_second tw sectors [] cs h = h
+lines_second tw sectors (b ∷ bs) cs h = lines_second tw sectors bs cs h.2
 
 -- the places of a word
 

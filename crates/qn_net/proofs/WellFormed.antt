@@ -1,5 +1,5 @@
 -- Members whose labels have no fault are a well-formed network.
-use Rattle.std.proofs.Common.{◌≡◌, ◌≢◌, ◌≤◌, ◌<◌, ℕ, zero, suc, ◌+◌, ℤ, pos, negsuc, Bool, true, false, not, ◌&&◌, ◌||◌, cond, Option, Some, None, List, [], ◌∷◌, ◌++◌, append-nil, length, take, get_or, map, nat_lt, refl, sym, ◌∙◌, ap, ap₂, subst, ◌⊎◌, inl, inr, int_eq, arith}
+use Rattle.std.proofs.Common.{◌≡◌, ◌≢◌, ◌≤◌, ◌<◌, ℕ, zero, suc, ◌+◌, ℤ, pos, negsuc, Bool, true, false, not, ◌&&◌, ◌||◌, cond, Option, Some, None, List, [], ◌∷◌, ◌++◌, append-nil, length, take, get_or, map, nat_lt, refl, sym, ◌∙◌, ap, ap₂, subst, ◌⊎◌, inl, inr, int_eq, int_lt, arith}
 use Rattle.std.specs.List.{All, Contains}
 use Rattle.std.proofs.lemmas.Bool.{false≢true, cases_eq, cases_lt, or_cases, or_left, or_right, and_parts}
 use Rattle.std.proofs.lemmas.Bool.Decides.{nat_tests}
@@ -20,7 +20,7 @@ use Rattle.qn_block.proofs.TableRows.{fuse_is_tensor, split_is_tensor}
 use Rattle.qn_net.specs.Members.{MemberValue, LabelledMember, member_tensor, placed_member, slots_of_members, ends_of_members, IsHeld, IsMemberOf}
 use Rattle.qn_net.specs.Members.MemberValue.{own, fuse, split}
 use Rattle.qn_net.specs.NetworkValues.{PlacedMember, legs_of, open_count, IsOrderOf, IsWellFormed}
-use Rattle.qn_net.specs.Refusals.{label_at, legs_with, tally, slot_at, IsNoPositive, BadPlaceAt, LacksLabel, AreLabelled, IsGoodOrder, IsFaultless, positives_below, positives, order_or, network_of}
+use Rattle.qn_net.specs.Refusals.{label_at, legs_with, tally, slot_at, IsNoPositive, BadPlaceAt, LacksLabel, AreLabelled, IsGoodOrder, AreGoodTwists, IsFaultless, positives_below, positives, order_or, network_of}
 use Rattle.qn_net.specs.Tables.{HasLabel, end_at}
 use Rattle.qn_net.proofs.TableLemmas.{legs_are_ends}
 use Rattle.qn_net.proofs.LineLemmas.{none_zero, none_above, positives_all}
@@ -333,23 +333,39 @@ module _ (ms : List LabelledMember) (l : AreLabelled ms) where
       back (pos n) h = g n (stands_of n (and_parts (is_positive (pos n)) (is_in same_end (record { label = pos n; inward = true }) es) h).1)
       back (negsuc n) h = absurd (false≢true h)
 
-  given_order : (order : List ℤ) → HasNone (BadPlaceAt es order) → (LacksLabel es order → ⊥) → IsOrderOf es order
-  given_order order good full = order_from order (distinct_order order (λ i m c. good i (m, inr c))) (λ k h. found k (in_contains order k h)) (λ n h. all n h (is_in int_eq (pos n) order) refl)
+  -- the labels of a list in which each is a positive one that stands
+  found : (ls : List ℤ) → ((i : ℕ) → i < length ls → IsNoPositive es (label_at ls i) → ⊥) → (k : ℤ) → Contains ls k → (n : ℕ) × (k ≡ pos n) × (0 < legs_with (pos n) es)
+  found ls good k c = at k refl
     where
-      found : (k : ℤ) → Contains order k → (n : ℕ) × (k ≡ pos n) × (0 < legs_with (pos n) es)
-      found k c = at k refl
+      here : label_at ls c.0 ≡ k
+      here = get_or_default ls c.0 (pos 0) k c.1 ∙ c.2
+
+      at : (j : ℤ) → k ≡ j → (n : ℕ) × (k ≡ pos n) × (0 < legs_with (pos n) es)
+      at (negsuc n) e = absurd (good c.0 c.1 (subst (IsNoPositive es) (sym (here ∙ e)) tt))
+      at (pos n) e = (n, e, by (cases_eq (legs_with (pos n) es) 0))
         where
-          here : label_at order c.0 ≡ k
-          here = get_or_default order c.0 (pos 0) k c.1 ∙ c.2
+          by : (legs_with (pos n) es ≡ 0) ⊎ (legs_with (pos n) es ≢ 0) → 0 < legs_with (pos n) es
+          by (inl z) = absurd (good c.0 c.1 (subst (IsNoPositive es) (sym (here ∙ e)) z))
+          by (inr z) = omega (arith, z)
 
-          at : (j : ℤ) → k ≡ j → (n : ℕ) × (k ≡ pos n) × (0 < legs_with (pos n) es)
-          at (negsuc n) e = absurd (good c.0 (c.1, inl (subst (IsNoPositive es) (sym (here ∙ e)) tt)))
-          at (pos n) e = (n, e, by (cases_eq (legs_with (pos n) es) 0))
-            where
-              by : (legs_with (pos n) es ≡ 0) ⊎ (legs_with (pos n) es ≢ 0) → 0 < legs_with (pos n) es
-              by (inl z) = absurd (good c.0 (c.1, inl (subst (IsNoPositive es) (sym (here ∙ e)) z)))
-              by (inr z) = omega (arith, z)
+  -- twisted labels are in the order, and ascend
+  twists_ordered : (order tw : List ℤ) → IsOrderOf es order → AreGoodTwists es tw → (k : ℤ) → is_in int_eq k tw ≡ true → is_in int_eq k order ≡ true
+  twists_ordered order tw o good k h =
+      let w = found tw (λ i m p. good i (m, inl p)) k (in_contains tw k h) in
+      o.positive k
+      ∙ subst (λ j. (is_positive j && is_in same_end (record { label = j; inward = true }) es) ≡ true) (sym w.1) (ap₂ ◌&&◌ (positive_of w.0 w.2) (inward_of w.0 w.2))
 
+  twists_ascend : (tw : List ℤ) → AreGoodTwists es tw → (i : ℕ) → suc i < length tw → int_lt (label_at tw i) (label_at tw (suc i)) ≡ true
+  twists_ascend tw good i lt = go (int_lt (label_at tw i) (label_at tw (suc i))) refl
+    where
+      go : (b : Bool) → int_lt (label_at tw i) (label_at tw (suc i)) ≡ b → int_lt (label_at tw i) (label_at tw (suc i)) ≡ true
+      go true e = e
+      go false e = absurd (good (suc i) (lt, inr e))
+
+  given_order : (order : List ℤ) → HasNone (BadPlaceAt es order) → (LacksLabel es order → ⊥) → IsOrderOf es order
+  given_order order good full =
+      order_from order (distinct_order order (λ i m c. good i (m, inr c))) (λ k h. found order (λ i m p. good i (m, inl p)) k (in_contains order k h)) (λ n h. all n h (is_in int_eq (pos n) order) refl)
+    where
       all : (n : ℕ) → 0 < legs_with (pos n) es → (b : Bool) → is_in int_eq (pos n) order ≡ b → is_in int_eq (pos n) order ≡ true
       all n h true q = q
       all n h false q = absurd (full (n, h, (λ c. false≢true (sym q ∙ contains_in order (pos n) c.0 c.1 c.2))))
@@ -447,16 +463,18 @@ placed_long : (ms : List LabelledMember) → length (map placed_member ms) ≡ l
 placed_long [] = refl
 placed_long (m ∷ ms) = let e : length (map placed_member ms) ≡ length ms = placed_long ms in omega (arith, e)
 
-pub well_formed : (fs : List Factor) (ms : List LabelledMember) (order : Option (List ℤ)) → IsGroup fs → 0 < length ms → All (IsMemberOf fs) ms → All (λ m. IsHeld m.member) ms → IsFaultless ms order →
-    IsWellFormed (network_of fs ms order)
-well_formed fs ms order group some members held f =
-    let same : slots_of_members ms ≡ legs_of (network_of fs ms order) = ap slots (sym (same_placed ms)) in
+pub well_formed : (fs : List Factor) (ms : List LabelledMember) (order : Option (List ℤ)) (twist : List ℤ) → IsGroup fs → 0 < length ms → All (IsMemberOf fs) ms → All (λ m. IsHeld m.member) ms →
+    IsFaultless ms order twist → IsWellFormed (network_of fs ms order twist)
+well_formed fs ms order twist group some members held f =
+    let same : slots_of_members ms ≡ legs_of (network_of fs ms order twist) = ap slots (sym (same_placed ms)) in
+    let ordered : IsOrderOf (ends_of_members ms) (order_or (ends_of_members ms) order) = order_of ms f.0 order f.1 in
     record {
       group = group;
       some = subst (λ n. 0 < n) (sym (placed_long ms)) some;
       placed = all_placed fs ms members held (labels_long ms f.0.0.0.0.0);
       labelled = subst (λ ss. IsWellLabelled (ends ss) (open_count (ends ss))) same (well_labelled ms f.0);
       uniform = subst IsUniform same (uniform ms f.0);
-      order = subst (λ ss. IsOrderOf (ends ss) (order_or (ends_of_members ms) order)) same (order_of ms f.0 order f.1);
-      twists = λ l h. absurd (false≢true h);
+      order = subst (λ ss. IsOrderOf (ends ss) (order_or (ends_of_members ms) order)) same ordered;
+      twists = twists_ordered ms f.0 (order_or (ends_of_members ms) order) twist ordered f.2;
+      ascending = twists_ascend ms f.0 twist f.2;
     }

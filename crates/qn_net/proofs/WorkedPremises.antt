@@ -54,6 +54,7 @@ well_formed = record {
   uniform = is_uniform;
   order = ordered;
   twists = λ l h. absurd (false≢true h);
+  ascending = λ i h. absurd (omega (arith, h));
 }
 
 pub lines : AreLines (sectors trace_alone) (bonds trace_alone)

@@ -1,6 +1,6 @@
 -- Networks as they are given: tensors with a label on each leg, an order of the positive labels, and twisted labels.
 -- NCON, arXiv:1402.0939; twisted labels are this project's own.
-use Rattle.std.specs.Prelude.{◌≡◌, ◌<◌, ℕ, ℤ, true, ◌&&◌, not, Option, List, [], ◌∷◌, length, map, count_by}
+use Rattle.std.specs.Prelude.{◌≡◌, ◌<◌, ℕ, suc, ℤ, pos, true, ◌&&◌, not, Option, List, [], ◌∷◌, length, map, count_by, int_lt, slice_index_or}
 use Rattle.std.specs.Ordering.{int_eq}
 use Rattle.qn_sign.specs.Sign.{is_in, IsDistinct}
 use Rattle.qn_gauss.specs.Gaussian.{Gaussian}
@@ -82,7 +82,7 @@ pub record IsOrderOf (es : List End) (order : List ℤ) : Type 0 where
   pub positive : (l : ℤ) → is_in int_eq l order ≡ (is_positive l && is_in same_end (record { label = l; inward = true }) es)
 
 -- what holds of each network: some tensors of its group, each with a label on every leg; labels that pair up legs which meet, and number the open legs;
--- an order of the positive labels, and twisted labels that are among these
+-- an order of the positive labels, and ascending twisted labels that are among these
 pub record IsWellFormed (net : NetworkValue) : Type 0 where
   pub group : IsGroup net.group
   pub some : 0 < length net.members
@@ -91,6 +91,7 @@ pub record IsWellFormed (net : NetworkValue) : Type 0 where
   pub uniform : IsUniform (legs_of net)
   pub order : IsOrderOf (ends (legs_of net)) net.order
   pub twists : (l : ℤ) → is_in int_eq l net.twists ≡ true → is_in int_eq l net.order ≡ true
+  pub ascending : (i : ℕ) → suc i < length net.twists → int_lt (slice_index_or net.twists i (pos 0)) (slice_index_or net.twists (suc i) (pos 0)) ≡ true
 
 -- whatever the order, carrying out the steps leaves one tensor, which in the order of the open legs has the value of the network;
 -- on the way each state is sound and each step is one of its state

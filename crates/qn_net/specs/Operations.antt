@@ -1,6 +1,6 @@
 -- Operations on tensors with labels as steps of a network: what a step makes of the tensors of its groups is a tensor of its result.
 -- NCON, arXiv:1402.0939; Fishman, White and Stoudenmire 2022.
-use Rattle.std.specs.Prelude.{◌≡◌, ◌≢◌, ◌<◌, ℕ, ℤ, pos, negsuc, false, not, List, [], ◌∷◌, ◌++◌, length, map, filter}
+use Rattle.std.specs.Prelude.{◌≡◌, ◌≢◌, ◌<◌, ℕ, ℤ, pos, negsuc, Bool, not, List, [], ◌∷◌, ◌++◌, length, map, filter}
 use Rattle.std.specs.List.{All, flat_map}
 use Rattle.std.specs.Ordering.{int_eq}
 use Rattle.qn_sign.specs.Sign.{is_in}
@@ -21,6 +21,7 @@ use Rattle.qn_net.specs.Groups.{TensorGroup, nodes, flux_of}
 use Rattle.qn_net.specs.Steps.{Step, State, result, carry, IsStepAt}
 use Rattle.qn_net.specs.Steps.Step.{pair, trace}
 use Rattle.qn_net.specs.Carried.{IsSoundState}
+use Rattle.qn_net.specs.TwistedSteps.{twisted_where, twisted_inward}
 use Rattle.qn_net.specs.Passing.{result_magnitude, result_legs, made}
 use Rattle.qn_net.specs.NetworkValues.{NetworkValue, IsWellFormed, placed, legs_of, parities, sectors, open_count, opens, begin, steps, value}
 use Rattle.qn_net.specs.Refusals.{label_at}
@@ -50,10 +51,14 @@ AreTensorsOf fs sectors [] (g ∷ gs) = ⊥
 AreTensorsOf fs sectors (p ∷ ps) [] = ⊥
 AreTensorsOf fs sectors (p ∷ ps) (g ∷ gs) = IsTensorOf fs sectors p g × AreTensorsOf fs sectors ps gs
 
--- lines that are not twisted, each with the values of its sectors
+-- lines with the values of their sectors, twisted where their labels are among these
+abbrev pub AreTwistedLines : List ℤ → (ℤ → List SectorValue) → List Bond → Type 0
+AreTwistedLines twists sectors [] = Unit {0}
+AreTwistedLines twists sectors (b ∷ bs) = (b.dim ≡ total (sectors b.label)) × (b.twisted ≡ is_in int_eq b.label twists) × AreTwistedLines twists sectors bs
+
+-- lines that are not twisted
 abbrev pub AreLines : (ℤ → List SectorValue) → List Bond → Type 0
-AreLines sectors [] = Unit {0}
-AreLines sectors (b ∷ bs) = (b.dim ≡ total (sectors b.label)) × (b.twisted ≡ false) × AreLines sectors bs
+AreLines sectors bs = AreTwistedLines [] sectors bs
 
 -- the couples of places of one tensor with these labels are the two ends of each line, in the order of the lines
 pub record AreCouplesOf (ls : List ℤ) (bonds : List Bond) (couples : List (ℕ × ℕ)) : Type 0 where
@@ -75,52 +80,41 @@ labels_left ls bonds = filter (λ l. not (is_in int_eq l (labels bonds))) ls
 abbrev pub open_labels : ℕ → List ℤ
 open_labels n = map negsuc (positions n)
 
--- before the first step the tensors of the groups are those of the members, and without twists the lines are plain
+-- before the first step the tensors of the groups are those of the members, and the lines are twisted where the network says so
 abbrev pub FirstTensorsLaw : Type 0
 FirstTensorsLaw =
     (net : NetworkValue) → IsWellFormed net →
     AreTensorsOf net.group (sectors net) (placed net) (begin net).groups
-    × (net.twists ≡ [] → AreLines (sectors net) (begin net).left)
+    × AreTwistedLines net.twists (sectors net) (begin net).left
 
--- a step leaves plain lines
+-- what a step leaves are lines as before
 abbrev pub LinesLaw : Type 0
 LinesLaw =
-    (sectors : ℤ → List SectorValue) (par : Parities) (s : State) (t : Step) → AreLines sectors s.left → IsStepAt s t → AreLines sectors (carry par (t ∷ []) s).left
+    (twists : List ℤ) (sectors : ℤ → List SectorValue) (par : Parities) (s : State) (t : Step) →
+    AreTwistedLines twists sectors s.left → IsStepAt s t → AreTwistedLines twists sectors (carry par (t ∷ []) s).left
 
--- a pair step: the pairs of legs are coupled; the two tensors contracted, with the labels left, are the tensor of the result, which has these legs;
--- and the first passing place of the contraction is that of the step
-abbrev pub PairStepLaw : Type 0
-PairStepLaw =
-    (fs : List Factor) (sectors : ℤ → List SectorValue) (opens : List End) (s : State)
-    (before : List TensorGroup) (g : TensorGroup) (between : List TensorGroup) (h : TensorGroup) (behind : List TensorGroup) (bonds left : List Bond)
-    (p q : Placed) (shared : List (ℕ × ℕ)) →
+-- what is made of two tensors whose pairs of legs are the ends of these lines: the pairs are coupled; the two contracted, with the labels left, are the tensor of the
+-- step's result, which has these legs; and the first passing place of the contraction is that of the step
+abbrev pub IsPairMade : List Factor → (ℤ → List SectorValue) → Step → List Bond → Bool → Placed → Placed → List (ℕ × ℕ) → Type 0
+IsPairMade fs sectors t bonds between p q shared =
     let par : Parities = parities_on fs sectors in
-    let t : Step = pair before g between h behind bonds left in
     let a : TensorValue = p.tensor in
     let b : TensorValue = q.tensor in
     let legs : List LegValue = open_legs (a ∷ b ∷ []) (shared_couples a shared) in
-    IsSoundState par opens s → IsStepAt s t → AreLines sectors s.left → IsTensorOf fs sectors p g → IsTensorOf fs sectors q h →
-    ArePairsOf p.labels q.labels bonds shared →
     IsCoupling (flat_map (λ x. x.legs) (a ∷ b ∷ [])) (shared_couples a shared)
-    × ((r : TensorValue) → IsTensor r → Pairwise a b shared (odd_flux (nodes between)) r →
+    × ((r : TensorValue) → IsTensor r → Pairwise a b shared between r →
     IsTensorOf fs sectors (record { tensor = r; labels = labels_left (p.labels ++ q.labels) bonds }) (result par t))
     × (legs ≡ result_legs par sectors t)
     × (sum_charge fs a.flux b.flux ≡ flux_of fs (result par t))
     × (first_passing (pair_magnitude a b shared) legs (admitted fs legs (sum_charge fs a.flux b.flux)) ≡
     first_passing (result_magnitude par made t) (result_legs par sectors t) (admitted fs (result_legs par sectors t) (flux_of fs (result par t))))
 
--- a trace step: likewise for the couples of legs of one tensor
-abbrev pub TraceStepLaw : Type 0
-TraceStepLaw =
-    (fs : List Factor) (sectors : ℤ → List SectorValue) (opens : List End) (s : State)
-    (before : List TensorGroup) (g : TensorGroup) (behind : List TensorGroup) (bonds left : List Bond)
-    (p : Placed) (couples : List (ℕ × ℕ)) →
+-- likewise of one tensor whose couples of legs are the ends of these lines
+abbrev pub IsTraceMade : List Factor → (ℤ → List SectorValue) → Step → List Bond → Placed → List (ℕ × ℕ) → Type 0
+IsTraceMade fs sectors t bonds p couples =
     let par : Parities = parities_on fs sectors in
-    let t : Step = trace before g behind bonds left in
     let a : TensorValue = p.tensor in
     let legs : List LegValue = open_legs (a ∷ []) couples in
-    IsSoundState par opens s → IsStepAt s t → AreLines sectors s.left → IsTensorOf fs sectors p g →
-    AreCouplesOf p.labels bonds couples →
     IsCoupling a.legs couples
     × ((r : TensorValue) → IsTensor r → Traced a couples r →
     IsTensorOf fs sectors (record { tensor = r; labels = labels_left p.labels bonds }) (result par t))
@@ -128,6 +122,29 @@ TraceStepLaw =
     × (a.flux ≡ flux_of fs (result par t))
     × (first_passing (trace_magnitude a couples) legs (admitted fs legs a.flux) ≡
     first_passing (result_magnitude par made t) (result_legs par sectors t) (admitted fs (result_legs par sectors t) (flux_of fs (result par t))))
+
+-- a pair step, before which the earlier or the later tensor is twisted
+abbrev pub PairStepLaw : Type 0
+PairStepLaw =
+    (fs : List Factor) (sectors : ℤ → List SectorValue) (opens : List End) (s : State)
+    (before : List TensorGroup) (g : TensorGroup) (between : List TensorGroup) (h : TensorGroup) (behind : List TensorGroup) (bonds left : List Bond)
+    (twists : List ℤ) (earlier : Bool) (p q : Placed) (shared : List (ℕ × ℕ)) →
+    let par : Parities = parities_on fs sectors in
+    let t : Step = pair before g between h behind bonds left in
+    IsSoundState par opens s → IsStepAt s t → AreTwistedLines twists sectors s.left →
+    IsTensorOf fs sectors p (twisted_where earlier par bonds g) → IsTensorOf fs sectors q (twisted_where (not earlier) par bonds h) →
+    ArePairsOf p.labels q.labels bonds shared → IsPairMade fs sectors t bonds (odd_flux (nodes between)) p q shared
+
+-- a trace step, before which the tensor is twisted
+abbrev pub TraceStepLaw : Type 0
+TraceStepLaw =
+    (fs : List Factor) (sectors : ℤ → List SectorValue) (opens : List End) (s : State)
+    (before : List TensorGroup) (g : TensorGroup) (behind : List TensorGroup) (bonds left : List Bond)
+    (twists : List ℤ) (p : Placed) (couples : List (ℕ × ℕ)) →
+    let par : Parities = parities_on fs sectors in
+    let t : Step = trace before g behind bonds left in
+    IsSoundState par opens s → IsStepAt s t → AreTwistedLines twists sectors s.left → IsTensorOf fs sectors p (twisted_inward par bonds g) →
+    AreCouplesOf p.labels bonds couples → IsTraceMade fs sectors t bonds p couples
 
 -- the last tensor with its legs in the order of the open labels has the value of the network, the legs of the open lines, and the flux of all members
 abbrev pub LastTensorLaw : Type 0

@@ -1,5 +1,5 @@
--- Why members with labels and an order are no network, in the order in which it is looked for.
-use Rattle.std.specs.Prelude.{◌≡◌, ◌≢◌, ◌≤◌, ◌<◌, ◌⊎◌, ◌++◌, ◌∷◌, [], if◌then◌else◌, ℕ, zero, suc, ℤ, pos, negsuc, unsigned_abs, true, false, Option, Some, None, List, length, take, map, count_by, nat_lt, slice_index_or, Vec}
+-- Why members with labels, an order and twisted labels are no network, in the order in which it is looked for.
+use Rattle.std.specs.Prelude.{◌≡◌, ◌≢◌, ◌≤◌, ◌<◌, ◌⊎◌, ◌++◌, ◌∷◌, [], if◌then◌else◌, ℕ, zero, suc, ℤ, pos, negsuc, unsigned_abs, true, Option, Some, None, List, length, take, map, count_by, nat_lt, int_lt, false, slice_index_or, Vec}
 use Rattle.std.specs.Global.{Global}
 use Rattle.std.specs.List.{All, Contains}
 use Rattle.std.specs.Ordering.{int_eq}
@@ -9,7 +9,7 @@ use Rattle.qn_charge.specs.Firsts.{IsFirst, HasNone}
 use Rattle.qn_value.specs.Networks.{End, same_end}
 use Rattle.qn_value.specs.Labels.{Slot}
 use Rattle.qn_net.specs.declared.fault.NetFault.{NetFault}
-use Rattle.qn_net.specs.declared.fault.NetFault.TheVariants.{LabelArity, LabelRange, LabelCount, Arrow, Sectors, OpenLabels, Order, Memory}
+use Rattle.qn_net.specs.declared.fault.NetFault.TheVariants.{LabelArity, LabelRange, LabelCount, Arrow, Sectors, OpenLabels, Order, Twist, Memory}
 use Rattle.qn_net.specs.Members.{LabelledMember, member_tensor, member_at, placed_member, slots_of_members, ends_of_members, IsHeld, IsMemberOf}
 use Rattle.qn_net.specs.NetworkValues.{NetworkValue, IsWellFormed}
 
@@ -86,6 +86,15 @@ abbrev pub IsOrderFault : List End → List ℤ → ℕ → Type 0
 IsOrderFault es order place =
     IsFirst (BadPlaceAt es order) place ⊎ (HasNone (BadPlaceAt es order) × (place ≡ length order) × LacksLabel es order)
 
+-- the i-th label is not above the one before it
+abbrev pub IsNotAbove : List ℤ → ℕ → Type 0
+IsNotAbove ls zero = ⊥
+IsNotAbove ls (suc i) = int_lt (label_at ls i) (label_at ls (suc i)) ≡ false
+
+-- the i-th twisted label is no positive one that stands, or is not above the one before it
+abbrev pub BadTwistAt : List End → List ℤ → ℕ → Type 0
+BadTwistAt es twist i = (i < length twist) × (IsNoPositive es (label_at twist i) ⊎ IsNotAbove twist i)
+
 -- each member has a label for each leg
 abbrev pub HaveLabels : List LabelledMember → Type 0
 HaveLabels ms = HasNone (BadMemberAt ms)
@@ -111,27 +120,32 @@ abbrev pub IsGoodOrder : List End → Option (List ℤ) → Type 0
 IsGoodOrder es None = Unit {0}
 IsGoodOrder es (Some order) = HasNone (BadPlaceAt es order) × (LacksLabel es order → ⊥)
 
+-- the twisted labels ascend, and each is a positive one that stands
+abbrev pub AreGoodTwists : List End → List ℤ → Type 0
+AreGoodTwists es twist = HasNone (BadTwistAt es twist)
+
 -- nothing is wrong
-abbrev pub IsFaultless : List LabelledMember → Option (List ℤ) → Type 0
-IsFaultless ms order = AreLabelled ms × IsGoodOrder (ends_of_members ms) order
+abbrev pub IsFaultless : List LabelledMember → Option (List ℤ) → List ℤ → Type 0
+IsFaultless ms order twist = AreLabelled ms × IsGoodOrder (ends_of_members ms) order × AreGoodTwists (ends_of_members ms) twist
 
 -- the first fault: member by member the number of labels and their range; then the counts of the positive labels, ascending, and of -1, -2, ..;
--- the arrows, and then the sectors, each by ascending label; a gap among the negative labels; and the order
-abbrev pub IsNetFault : List LabelledMember → Option (List ℤ) → NetFault → Type 0
-IsNetFault ms order (LabelArity t) = IsFirst (BadMemberAt ms) t × BadArity (member_at ms t)
-IsNetFault ms order (LabelRange t j) =
+-- the arrows, and then the sectors, each by ascending label; a gap among the negative labels; the order; and the twisted labels
+abbrev pub IsNetFault : List LabelledMember → Option (List ℤ) → List ℤ → NetFault → Type 0
+IsNetFault ms order twist (LabelArity t) = IsFirst (BadMemberAt ms) t × BadArity (member_at ms t)
+IsNetFault ms order twist (LabelRange t j) =
     IsFirst (BadMemberAt ms) t × (length (member_at ms t).labels ≡ length (member_tensor (member_at ms t).member).legs) × IsFirst (BadLabelAt (member_at ms t).labels) j
-IsNetFault ms order (LabelCount (pos n)) = HaveLabels ms × IsFirst (IsMiscounted (ends_of_members ms)) n
-IsNetFault ms order (LabelCount (negsuc n)) = HaveLabels ms × HasNone (IsMiscounted (ends_of_members ms)) × IsFirst (IsRepeated (ends_of_members ms)) n
-IsNetFault ms order (Arrow (pos n)) = AreCounted ms × IsFirst (HasEqualArrows (ends_of_members ms)) n
-IsNetFault ms order (Arrow (negsuc n)) = ⊥
-IsNetFault ms order (Sectors (pos n)) = AreOpposite ms × IsFirst (HasUnequalSectors (slots_of_members ms)) n
-IsNetFault ms order (Sectors (negsuc n)) = ⊥
-IsNetFault ms order (OpenLabels (pos n)) = ⊥
-IsNetFault ms order (OpenLabels (negsuc n)) = AreMeeting ms × IsFirst (IsGap (ends_of_members ms)) n
-IsNetFault ms None (Order place) = ⊥
-IsNetFault ms (Some order) (Order place) = AreLabelled ms × IsOrderFault (ends_of_members ms) order place
-IsNetFault ms order Memory = Unit {0}
+IsNetFault ms order twist (LabelCount (pos n)) = HaveLabels ms × IsFirst (IsMiscounted (ends_of_members ms)) n
+IsNetFault ms order twist (LabelCount (negsuc n)) = HaveLabels ms × HasNone (IsMiscounted (ends_of_members ms)) × IsFirst (IsRepeated (ends_of_members ms)) n
+IsNetFault ms order twist (Arrow (pos n)) = AreCounted ms × IsFirst (HasEqualArrows (ends_of_members ms)) n
+IsNetFault ms order twist (Arrow (negsuc n)) = ⊥
+IsNetFault ms order twist (Sectors (pos n)) = AreOpposite ms × IsFirst (HasUnequalSectors (slots_of_members ms)) n
+IsNetFault ms order twist (Sectors (negsuc n)) = ⊥
+IsNetFault ms order twist (OpenLabels (pos n)) = ⊥
+IsNetFault ms order twist (OpenLabels (negsuc n)) = AreMeeting ms × IsFirst (IsGap (ends_of_members ms)) n
+IsNetFault ms None twist (Order place) = ⊥
+IsNetFault ms (Some order) twist (Order place) = AreLabelled ms × IsOrderFault (ends_of_members ms) order place
+IsNetFault ms order twist (Twist place) = AreLabelled ms × IsGoodOrder (ends_of_members ms) order × IsFirst (BadTwistAt (ends_of_members ms) twist) place
+IsNetFault ms order twist Memory = Unit {0}
 
 -- the positive labels below n that stand, ascending
 abbrev pub positives_below : List End → ℕ → List ℤ
@@ -158,12 +172,12 @@ IsChoiceFault es (Some order) (Order place) = IsOrderFault es order place
 IsChoiceFault es order Memory = Unit {0}
 IsChoiceFault es order fault = ⊥
 
--- the network of these members; no label is twisted
-abbrev pub network_of : List Factor → List LabelledMember → Option (List ℤ) → NetworkValue
-network_of fs ms order = record { group = fs; members = map placed_member ms; order = order_or (ends_of_members ms) order; twists = [] }
+-- the network of these members
+abbrev pub network_of : List Factor → List LabelledMember → Option (List ℤ) → List ℤ → NetworkValue
+network_of fs ms order twist = record { group = fs; members = map placed_member ms; order = order_or (ends_of_members ms) order; twists = twist }
 
--- members whose labels and order have no fault are a well-formed network
+-- members whose labels, order and twisted labels have no fault are a well-formed network
 abbrev pub WellFormedLaw : Type 0
 WellFormedLaw =
-    (fs : List Factor) (ms : List LabelledMember) (order : Option (List ℤ)) → IsGroup fs → 0 < length ms → All (IsMemberOf fs) ms → All (λ m. IsHeld m.member) ms →
-    IsFaultless ms order → IsWellFormed (network_of fs ms order)
+    (fs : List Factor) (ms : List LabelledMember) (order : Option (List ℤ)) (twist : List ℤ) → IsGroup fs → 0 < length ms → All (IsMemberOf fs) ms → All (λ m. IsHeld m.member) ms →
+    IsFaultless ms order twist → IsWellFormed (network_of fs ms order twist)

@@ -3,7 +3,7 @@
 use std::alloc::{AllocError, AllocFailed};
 use thiserror::Error;
 
-/// Why members with labels and an order are no network. Tensors, legs and places are counted from 0.
+/// Why members with labels, an order and twisted labels are no network. Tensors, legs and places are counted from 0.
 #[derive(Clone, Copy, Debug, PartialEq, Eq, Error)]
 pub enum NetFault {
     /// The tensor has not one label for each leg.
@@ -28,6 +28,9 @@ pub enum NetFault {
     /// label.
     #[error("place {place} of the order is wrong")]
     Order { place: usize },
+    /// The place of the twisted labels that is no positive label, or not above the one before it.
+    #[error("place {place} of the twisted labels is wrong")]
+    Twist { place: usize },
     /// Memory was wanting.
     #[error("out of memory")]
     Memory,

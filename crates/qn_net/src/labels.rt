@@ -35,7 +35,7 @@ fn first_bad_label(labels: &[i64]) -> Option<usize>
 /// The first member that has not one label for each leg, or a label that is out of range.
 pub(crate) fn label_fault<const K: usize>(tensors: &[NetTensor<K>]) -> Option<NetFault>
     ensures none { IsNone result → HaveLabels tensors.now }
-    ensures fault { (order : Option (List ℤ)) → IfSome result (IsNetFault tensors.now order) }
+    ensures fault { (order : Option (List ℤ)) (twist : List ℤ) → IfSome result (IsNetFault tensors.now order twist) }
 {
     for i in 0..tensors.len() {
         let t = &tensors[i];

@@ -17,6 +17,7 @@ mod order;
 pub mod passing;
 pub mod plans;
 mod table;
+mod twist;
 pub mod values;
 
 pub use fault::NetFault;

@@ -1,4 +1,4 @@
-//! Networks: members whose labels pair up legs that meet, and an order of these labels.
+//! Networks: members whose labels pair up legs that meet, an order of these labels, and twisted ones among them.
 
 ghost use Rattle.std.specs.Prelude.{◌≡◌, ◌<◌, ◌≤◌, List, [], Option, Some, None, ℤ, pos, negsuc, IfOk, IfErr, OnOk, IfSome, MatchOption, length, map};
 ghost use Rattle.std.specs.List.{All};
@@ -15,6 +15,7 @@ use crate::meeting::first_unequal_sectors;
 use crate::member::NetTensor;
 use crate::order::order_fault;
 use crate::table::LabelTable;
+use crate::twist::first_bad_twist;
 use qn_charge::Group;
 use std::alloc::{AllocError, Global};
 use std::marker::Model;
@@ -65,7 +66,7 @@ fn line_fault<const K: usize>(tensors: &[NetTensor<K>], table: &LabelTable) -> O
     requires labels { HaveLabels tensors.now }
     requires table { table.now ≡ ends_of_members tensors.now }
     ensures none { result ≡ None → AreLabelled tensors.now }
-    ensures fault { (order : Option (List ℤ)) → IfSome result (IsNetFault tensors.now order) }
+    ensures fault { (order : Option (List ℤ)) (twist : List ℤ) → IfSome result (IsNetFault tensors.now order twist) }
 {
     match first_miscounted(table) {
         Some(n) => return Some(miscounted(n)),
@@ -109,7 +110,7 @@ fn checked_table<const K: usize>(
 ) -> Result<LabelTable, NetFault>
     ensures ok { IfOk result (λ t. t ≡ ends_of_members tensors.now) }
     ensures labelled { OnOk result (AreLabelled tensors.now) }
-    ensures err { (order : Option (List ℤ)) → IfErr result (IsNetFault tensors.now order) }
+    ensures err { (order : Option (List ℤ)) (twist : List ℤ) → IfErr result (IsNetFault tensors.now order twist) }
 {
     match label_fault(tensors) {
         Some(fault) => return Err(fault),
@@ -166,44 +167,46 @@ fn chosen_order(
     }
 }
 
-/// A network: members whose positive labels pair up legs that meet, open legs -1, -2, .., and an order of the positive
-/// labels.
+/// A network: members whose positive labels pair up legs that meet, open legs -1, -2, .., an order of the positive
+/// labels, and the twisted ones among these, ascending.
 #[derive(Debug, Drop)]
 pub struct Network<const K: usize> {
     group: Group<K>,
     tensors: Vec<NetTensor<K>>,
     order: Vec<i64>,
+    twist: Vec<i64>,
 }
 
 impl<const K: usize> Model for Network<K> {
-    ghost use Rattle.std.specs.Prelude.{[], map, length, ◌≤◌};
+    ghost use Rattle.std.specs.Prelude.{map, length, ◌≤◌};
     ghost use Rattle.std.specs.List.{All};
     ghost use Rattle.qn_net.specs.Members.{IsMemberOf, placed_member};
     ghost use Rattle.qn_net.specs.NetworkValues.{NetworkValue, IsWellFormed};
 
     ghost Value = { NetworkValue };
 
-    ghost view = { λ n. record { group = n.group; members = map placed_member n.tensors.items; order = n.order.items; twists = [] } };
+    ghost view = { λ n. record { group = n.group; members = map placed_member n.tensors.items; order = n.order.items; twists = n.twist.items } };
 
-    ghost invariant = { λ n. IsWellFormed (record { group = n.group; members = map placed_member n.tensors.items; order = n.order.items; twists = [] })
+    ghost invariant = { λ n. IsWellFormed (record { group = n.group; members = map placed_member n.tensors.items; order = n.order.items; twists = n.twist.items })
         × All (IsMemberOf n.group) n.tensors.items × (length n.tensors.items ≤ 256) };
 }
 
 impl<const K: usize> Network<K> {
     /// The network of these members, 1 to 256 of at most 32 legs each, or the first reason why there is none.
-    /// Without an order the positive labels are taken ascending.
+    /// Without an order the positive labels are taken ascending. The twisted labels are given ascending.
     pub fn new(
         alloc: Global,
         group: Group<K>,
         tensors: Vec<NetTensor<K>>,
         order: Option<Vec<i64>>,
+        twist: Vec<i64>,
     ) -> Result<Network<K>, NetFault>
         requires some { 0 < length tensors.items }
         requires few { length tensors.items ≤ 256 }
         requires members { All (IsMemberOf group) tensors.items }
-        ensures ok { IfOk result (λ n. n ≡ network_of group.entry tensors.entry.items (given order)) }
-        ensures faultless { OnOk result (IsFaultless tensors.entry.items (given order)) }
-        ensures err { IfErr result (IsNetFault tensors.entry.items (given order)) }
+        ensures ok { IfOk result (λ n. n ≡ network_of group.entry tensors.entry.items (given order) twist.items) }
+        ensures faultless { OnOk result (IsFaultless tensors.entry.items (given order) twist.items) }
+        ensures err { IfErr result (IsNetFault tensors.entry.items (given order) twist.items) }
     {
         group.known();
         known_members(&tensors);
@@ -211,20 +214,24 @@ impl<const K: usize> Network<K> {
             Ok(table) => table,
             Err(fault) => return Err(fault),
         };
-        match chosen_order(alloc, order, &table) {
-            Ok(order) => Ok(Network {
+        let order = match chosen_order(alloc, order, &table) {
+            Ok(order) => order,
+            Err(fault) => return Err(fault),
+        };
+        match first_bad_twist(&twist, &table) {
+            Some(place) => Err(NetFault::Twist { place }),
+            None => Ok(Network {
                 group,
                 tensors,
                 order,
+                twist,
             }),
-            Err(fault) => Err(fault),
         }
     }
 
     /// What holds of each network. Nothing is done.
     pub fn known(&self)
         ensures well_formed { IsWellFormed self.now }
-        ensures plain { self.now.twists ≡ [] }
     {
         let _group = &self.group;
     }
@@ -250,5 +257,12 @@ impl<const K: usize> Network<K> {
         ensures { result.now ≡ self.now.order }
     {
         &self.order
+    }
+
+    /// The twisted labels, ascending.
+    pub fn twist(&self) -> &[i64]
+        ensures { result.now ≡ self.now.twists }
+    {
+        &self.twist
     }
 }

@@ -7,7 +7,7 @@ use crate::table::LabelTable;
 use std::alloc::{AllocError, Global};
 
 /// The number of a label from 1 to 1,024.
-fn positive_number(label: &i64) -> Option<u32>
+pub(crate) fn positive_number(label: &i64) -> Option<u32>
     ensures { MatchOption result ((n : ℕ) → 0 < n → n ≤ 1024 → label.now ≡ pos n → ⊥) (λ n.
         (label.now ≡ pos n) × (0 < n) × (n ≤ 1024)) }
 {

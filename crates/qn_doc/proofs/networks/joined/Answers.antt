@@ -25,5 +25,5 @@ new-requires g c =
 pub returns-in-Ok : goal.returns-in-Ok
 returns-in-Ok g c = (
   refl,
-  network_means (view c.args.v.now) c.args.group.now c.args.members.items (given c.in_ok-order.order) c.in-Ok.net c.requires.factors c.requires.members c.in_ok-order.ensures c.in-Ok.ensures.ok c.in-Ok.ensures.faultless,
+  network_means (view c.args.v.now) c.args.group.now c.args.members.items (given c.in_ok-order.order) c.in_ok-twist.twist.items c.in-Ok.net c.requires.factors c.requires.members c.in_ok-order.ensures c.in_ok-twist.ensures c.in-Ok.ensures.ok c.in-Ok.ensures.faultless,
 )

@@ -1,12 +1,12 @@
-use Rattle.std.proofs.Common.{codes, map, Some, refl, ap}
-use Rattle.std.specs.Prelude.{option_map}
+use Rattle.std.proofs.Common.{codes, map, ◌∙◌}
 use Rattle.std.proofs.lemmas.Result.{on_ok_weaker}
-use Rattle.serde_json.specs.Data.{object, member, no_members, put}
+use Rattle.serde_json.specs.Data.{object, member}
 use Rattle.qn_json.specs.Appended.{Appends, IsRead}
 use Rattle.qn_json.specs.Texts.{list_data}
 use Rattle.qn_parts.specs.TensorTexts.{factor_data}
-use Rattle.qn_doc.specs.NetworkTexts.{labels_data, member_data}
-use Rattle.qn_json.proofs.Appending.{opens, adds, closes, and_read}
+use Rattle.qn_doc.specs.NetworkTexts.{labels_data, member_data, twist_members}
+use Rattle.qn_json.proofs.Appending.{opens, adds}
+use Rattle.qn_doc.proofs.Twisted.{closed, network_read}
 use Rattle.qn_doc.proofs.writing.write_parts.Goals as goal
 
 pub returns : goal.returns
@@ -14,7 +14,8 @@ returns g c =
     let q = list_data (map factor_data c.args.group.now) in
     let o = labels_data c.args.order.now in
     let m = list_data (map member_data c.args.members.now) in
-    let tensors = member (codes "tensors") m no_members in
+    let left = twist_members c.args.twist.now in
+    let tensors = member (codes "tensors") m left in
     let order = member (codes "order") o tensors in
     let all = member (codes "group") q order in
     let d = object all in
@@ -25,10 +26,5 @@ returns g c =
     let opened = opens all start c.begin_object.new.self c.in_ok-begin_object.ensures.ok c.begin_object.ensures.room.0 in
     let one = adds d (codes "group") q order start c.begin_object.new.self c.key.new.self c.write_group.new.out opened c.in_ok-key.ensures.ok c.key.ensures.room.0 on_q in
     let two = adds d (codes "order") o tensors start c.write_group.new.out c.key-2.new.self c.write_numbers.new.out one c.in_ok-key-2.ensures.ok c.key-2.ensures.room.0 on_o in
-    let three = adds d (codes "tensors") m no_members start c.write_numbers.new.out c.key-3.new.self c.write_members.new.out two c.in_ok-key-3.ensures.ok c.key-3.ensures.room.0 on_m in
-    let after_q = put (codes "group") q no_members in
-    let read : IsRead d =
-    ap (option_map object)
-    (and_read (codes "group") q order no_members (Some all) on_q.read
-    (and_read (codes "order") o tensors after_q (Some all) on_o.read (and_read (codes "tensors") m no_members (put (codes "order") o after_q) (Some all) on_m.read refl))) in
-    on_ok_weaker c.end_object.result (λ e. closes d start c.write_members.new.out c.end_object.new.self three e c.end_object.ensures.room.0 read) c.end_object.ensures.ok
+    let three = adds d (codes "tensors") m left start c.write_numbers.new.out c.key-3.new.self c.write_members.new.out two c.in_ok-key-3.ensures.ok c.key-3.ensures.room.0 on_m in
+    closed c.write_twist.result d left start c.write_members.new.out c.write_twist.new.out (IsRead (labels_data c.args.twist.now)) three (network_read q o m c.args.twist.now on_q.read on_o.read on_m.read) c.write_twist.ensures.closes c.write_twist.ensures.read

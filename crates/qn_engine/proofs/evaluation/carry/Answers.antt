@@ -22,12 +22,12 @@ loop-i-preserved g c =
     let e : s ≡ get_or c.args.planned.now c.loop-i.i s = c.index-planned-i.is in (
       λ net w.
           let k = c.loop-i.invariant.0 net w in
-          on_more net c.args.planned.now c.loop-i.i c.loop-i.parts.items c.take_step.new.parts.items k
-          (c.in-Ok.ensures.carried net (on_next net c.args.planned.now c.loop-i.i s c.loop-i.parts.items k lt e)),
+          on_more net c.args.planned.now c.args.twist.now c.loop-i.i c.loop-i.parts.items c.take_step.new.parts.items k
+          (c.in-Ok.ensures.carried net (on_next net c.args.planned.now c.args.twist.now c.loop-i.i s c.loop-i.parts.items k lt e)),
       costs_more c.args.planned.now c.args.from c.loop-i.i c.args.steps.now c.loop-i.steps c.take_step.new.steps s low lt e c.loop-i.invariant.1 c.take_step.ensures.steps,
     )
 
 pub returns-clause-carried : goal.returns-clause-carried
 returns-clause-carried g c = λ net w.
     let e : c.loop-i.i ≡ c.args.to = omega (arith, c.requires.order) in
-    subst (λ n. IsOnWay net c.args.planned.now n c.loop-i.parts.items) e (c.loop-i.invariant.0 net w)
+    subst (λ n. IsOnWay net c.args.planned.now c.args.twist.now n c.loop-i.parts.items) e (c.loop-i.invariant.0 net w)

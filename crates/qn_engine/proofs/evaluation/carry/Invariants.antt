@@ -6,5 +6,5 @@ use Rattle.qn_engine.proofs.evaluation.carry.Given as goal
 
 abbrev pub invariant-loop-i : goal.invariant-loop-i
 invariant-loop-i g l =
-    ((net : NetworkValue) → IsOnWay net l.planned l.from l.initial.parts.items → IsOnWay net l.planned l.i l.parts.items)
+    ((net : NetworkValue) → IsOnWay net l.planned l.twist l.from l.initial.parts.items → IsOnWay net l.planned l.twist l.i l.parts.items)
     × (l.steps ≤ l.initial.steps + costs l.planned l.from (l.i - l.from))

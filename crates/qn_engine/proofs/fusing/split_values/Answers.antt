@@ -1,4 +1,4 @@
-use Rattle.std.proofs.Common.{◌<◌, arith, lit<}
+use Rattle.std.proofs.Common.{arith, lit<}
 use Rattle.qn_engine.proofs.FusedArrays.{left_long, split_more, split_done, fused_below}
 use Rattle.qn_engine.proofs.fusing.split_values.Goals as goal
 

@@ -4,7 +4,7 @@ use Rattle.qn_engine.proofs.known.known_steps.Goals as goal
 pub returns-clause-ready : goal.returns-clause-ready
 returns-clause-ready g c = λ narrow.
     network_ready c.network_value_law.ensures c.steps_law.ensures c.lines_law.ensures c.first_tensors_law.ensures c.steps_within_limits.ensures.groups c.steps_within_limits.ensures.pairs c.never_first_law.ensures c.first_steps_law.ensures
-    c.member_tables_law.ensures c.args.net.now c.known.ensures.well_formed c.known.ensures.plain c.tensors-members.result.now c.tensors-members.ensures.members c.tensors-members.ensures.each c.tensors-members.ensures.few
+    c.member_tables_law.ensures c.args.net.now c.known.ensures.well_formed c.tensors-members.result.now c.tensors-members.ensures.members c.tensors-members.ensures.each c.tensors-members.ensures.few
     c.known_members.ensures.held c.known_members.ensures.small narrow
 
 pub returns-clause-place : goal.returns-clause-place

@@ -16,7 +16,7 @@ pub returns-in-Some-clause-value : goal.returns-in-Some-clause-value
 returns-in-Some-clause-value g c = λ net w. c.in_ok-fuse_first-in-Some.ensures net c.args.done w
 
 pub returns-in-Some-clause-clear : goal.returns-in-Some-clause-clear
-returns-in-Some-clause-clear g c = λ net w clear. w.ready.silent (kind_fuse net c.args.done c.args.first c.args.second c.args.between_odd c.args.summed.now w (inl c.in-Some.ensures.0)) clear
+returns-in-Some-clause-clear g c = λ net w clear. w.ready.silent (kind_fuse net c.args.done c.args.first c.args.second c.args.between_odd c.args.summed.now c.args.twist.now w (inl c.in-Some.ensures.0)) clear
 
 pub returns-in-Some-clause-steps : goal.returns-in-Some-clause-steps
 returns-in-Some-clause-steps g c = λ net w. omega arith
@@ -25,7 +25,7 @@ pub returns-in-Some-table-clause-value : goal.returns-in-Some-table-clause-value
 returns-in-Some-table-clause-value g c = λ net w. c.in_ok-fuse_second-in-Some-table.ensures net c.args.done w
 
 pub returns-in-Some-table-clause-clear : goal.returns-in-Some-table-clause-clear
-returns-in-Some-table-clause-clear g c = λ net w clear. w.ready.silent (kind_fuse net c.args.done c.args.first c.args.second c.args.between_odd c.args.summed.now w (inr c.in-Some-table.ensures.0)) clear
+returns-in-Some-table-clause-clear g c = λ net w clear. w.ready.silent (kind_fuse net c.args.done c.args.first c.args.second c.args.between_odd c.args.summed.now c.args.twist.now w (inr c.in-Some-table.ensures.0)) clear
 
 pub returns-in-Some-table-clause-steps : goal.returns-in-Some-table-clause-steps
 returns-in-Some-table-clause-steps g c = λ net w. omega arith
