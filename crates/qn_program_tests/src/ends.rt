@@ -15,8 +15,11 @@ use std::test::Fail;
 use std::thread::Threads;
 
 // The words of a line, between single blanks.
-fn split(alloc: Global, line: &str) -> Result<Vec<String>, AllocError> {
+pub(crate) fn split(alloc: Global, line: &str) -> Result<Vec<String>, AllocError> {
     let mut words = Vec::new(alloc);
+    if line.is_empty() {
+        return Ok(words);
+    }
     for word in line.split(' ') {
         words.push(String::from_str(alloc, word)?)?;
     }
