@@ -7,11 +7,9 @@ use std::alloc::Global;
 use std::test::Fail;
 
 // The leg of a row.
-fn leg(alloc: Global, row: LegRow) -> Result<Leg<1>, SampleFault> {
-    match Group::<1>::new(&[FERMION]) {
-        Ok(group) => leg_of(alloc, &group, row),
-        Err(_) => Err(SampleFault::Memory),
-    }
+fn leg(alloc: Global, row: LegRow) -> Result<Leg<1>, Fail> {
+    let group = Group::<1>::new(&[FERMION])?;
+    Ok(leg_of(alloc, &group, row)?)
 }
 
 #[test]
@@ -32,6 +30,7 @@ fn values_of_a_leg(rt: HostRuntime) -> Result<(), Fail> {
 
 #[test]
 fn sectors_at_fault(rt: HostRuntime) -> Result<(), Fail> {
+    let group = Group::<1>::new(&[FERMION])?;
     let many = vec![in rt.alloc(); (0, 1); 65]?;
     let rows: [(Sectors, LegFault); 4] = [
         (&[], LegFault::NoSector),
@@ -43,7 +42,7 @@ fn sectors_at_fault(rt: HostRuntime) -> Result<(), Fail> {
         ),
     ];
     for (sectors, fault) in rows {
-        let made = leg(rt.alloc(), (Dir::In, sectors));
+        let made = leg_of(rt.alloc(), &group, (Dir::In, sectors));
         assert_eq!(rt; made.err(), Some(SampleFault::Leg(fault)));
     }
     Ok(())

@@ -9,3 +9,5 @@ mod electrons;
 mod ends;
 #[cfg(test)]
 mod rows;
+#[cfg(test)]
+mod words;

@@ -5,8 +5,10 @@ use qn_block::{BlockFault, BlockTensor};
 use qn_charge::Group;
 use qn_gauss::Gauss;
 use qn_index::Dir;
-use qn_samples::{BlockRow, FERMION, LegRow, SampleFault, Sectors, flux_of, legs_of};
-use std::alloc::{AllocError, Global};
+use qn_samples::{
+    BlockRow, FERMION, LegRow, SampleFault, Sectors, TensorRow, flux_of, legs_of, tensor_of,
+};
+use std::alloc::Global;
 use std::process::Abort;
 use std::test::Fail;
 
@@ -20,8 +22,10 @@ fn fault_of(
     legs: &[LegRow],
     flux: i64,
     blocks: &[BlockRow],
-) -> Result<Option<(BlockFault, String)>, AllocError> {
-    match tensor(alloc, FERMION, legs, flux, blocks) {
+) -> Result<Option<(BlockFault, String)>, Fail> {
+    let group = Group::<1>::new(&[FERMION])?;
+    let row = TensorRow { legs, flux, blocks };
+    match tensor_of(alloc, &group, row) {
         Err(SampleFault::Block(fault)) => Ok(Some((fault, fault.to_string(alloc)?))),
         _ => Ok(None),
     }

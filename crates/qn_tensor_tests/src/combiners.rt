@@ -4,17 +4,15 @@ use qn_block::{BlockTensor, Combiner, FuseFault};
 use qn_charge::{Charge, Group};
 use qn_index::{Dir, Leg};
 use qn_samples::{FERMION, LegRow, SampleFault, Sectors, combiner_of};
-use std::alloc::{AllocError, Global};
+use std::alloc::Global;
 use std::test::Fail;
 
 const SITE: Sectors<'static> = &[(0, 1), (1, 1)];
 
 // The combiner of these legs.
-fn combiner(alloc: Global, rows: &[LegRow], dir: Dir) -> Result<Combiner<1>, SampleFault> {
-    match Group::<1>::new(&[FERMION]) {
-        Ok(group) => combiner_of(alloc, &group, rows, dir),
-        Err(_) => Err(SampleFault::Flux),
-    }
+fn combiner(alloc: Global, rows: &[LegRow], dir: Dir) -> Result<Combiner<1>, Fail> {
+    let group = Group::<1>::new(&[FERMION])?;
+    Ok(combiner_of(alloc, &group, rows, dir)?)
 }
 
 // Whether a leg has these sectors.
@@ -52,8 +50,9 @@ fn fused_legs(rt: HostRuntime) -> Result<(), Fail> {
 }
 
 // The fault of the combiner of these legs, and its text.
-fn fault_of(alloc: Global, legs: &[LegRow]) -> Result<Option<(FuseFault, String)>, AllocError> {
-    match combiner(alloc, legs, Dir::In) {
+fn fault_of(alloc: Global, legs: &[LegRow]) -> Result<Option<(FuseFault, String)>, Fail> {
+    let group = Group::<1>::new(&[FERMION])?;
+    match combiner_of(alloc, &group, legs, Dir::In) {
         Err(SampleFault::Fuse(fault)) => Ok(Some((fault, fault.to_string(alloc)?))),
         _ => Ok(None),
     }

@@ -6,9 +6,10 @@ ghost use Rattle.qn_match.specs.Pairs.{IsPair};
 use qn_block::BlockTensor;
 use qn_charge::{Factor, Group};
 use qn_match::is_pair;
-use qn_samples::{BlockRow, LegRow, SampleFault, TensorRow, tensor_of};
+use qn_samples::{BlockRow, LegRow, TensorRow, tensor_of};
 use std::alloc::{AllocError, Global};
 use std::process::Abort;
+use std::test::Fail;
 
 /// The tensor of a row in the group of this factor.
 pub(crate) fn tensor(
@@ -17,12 +18,10 @@ pub(crate) fn tensor(
     legs: &[LegRow],
     flux: i64,
     blocks: &[BlockRow],
-) -> Result<BlockTensor<1>, SampleFault> {
+) -> Result<BlockTensor<1>, Fail> {
+    let group = Group::<1>::new(&[factor])?;
     let row = TensorRow { legs, flux, blocks };
-    match Group::<1>::new(&[factor]) {
-        Ok(group) => tensor_of(alloc, &group, row),
-        Err(_) => Err(SampleFault::Flux),
-    }
+    Ok(tensor_of(alloc, &group, row)?)
 }
 
 /// What a contraction over these pairs of legs asks for.

@@ -3,8 +3,6 @@
 //! For `qn_cli`. It hands on the job that the words name, or the place of the first word that is at fault.
 #![tactic(auto)]
 
-#[cfg(test)]
-mod tests;
 mod words;
 
 pub use words::{Job, read_words};
