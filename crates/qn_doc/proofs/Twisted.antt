@@ -1,5 +1,5 @@
 -- The end of a network's text, with its twisted labels where there are any.
-use Rattle.std.proofs.Common.{◌≡◌, ◌<◌, ℕ, ℤ, List, [], ◌∷◌, ◌++◌, length, codes, Some, refl, sym, ◌∙◌, ap, subst, append_assoc, arith}
+use Rattle.std.proofs.Common.{◌≡◌, ◌<◌, ℤ, List, [], ◌∷◌, ◌++◌, length, codes, Some, refl, sym, ◌∙◌, ap, subst, append_assoc, arith}
 use Rattle.std.specs.Prelude.{Result, Ok, Err, OnOk, option_map}
 use Rattle.std.proofs.lemmas.List.{nil_from_length}
 use Rattle.json.specs.Token.{end_object, key}
@@ -20,12 +20,12 @@ closes_none ls old new e tokens before = subst (λ ks. Closes (twist_members ks)
 pub closes_some : (ls : List ℤ) (old named mid new : Written) → 0 < length ls → named.tokens ≡ old.tokens ++ key (codes "twist") ∷ [] → named.before ≡ old.before → Appends (labels_data ls) named mid →
     new.tokens ≡ mid.tokens ++ end_object ∷ [] → new.before ≡ mid.before → Closes (twist_members ls) old new
 closes_some ls old named mid new l tk bk one te be = subst (λ ms. Closes ms old new) (sym (some_twists ls l)) (record {
-      tokens =
-          te ∙ ap (λ ts. ts ++ end_object ∷ []) (one.tokens ∙ ap (λ ts. ts ++ tokens_of (labels_data ls)) tk)
-          ∙ append_assoc (old.tokens ++ key (codes "twist") ∷ []) (tokens_of (labels_data ls)) (end_object ∷ [])
-          ∙ append_assoc old.tokens (key (codes "twist") ∷ []) (tokens_of (labels_data ls) ++ end_object ∷ []);
-      before = be ∙ one.before ∙ bk;
-    })
+  tokens =
+      te ∙ ap (λ ts. ts ++ end_object ∷ []) (one.tokens ∙ ap (λ ts. ts ++ tokens_of (labels_data ls)) tk)
+      ∙ append_assoc (old.tokens ++ key (codes "twist") ∷ []) (tokens_of (labels_data ls)) (end_object ∷ [])
+      ∙ append_assoc old.tokens (key (codes "twist") ∷ []) (tokens_of (labels_data ls) ++ end_object ∷ []);
+  before = be ∙ one.before ∙ bk;
+})
 
 pub none_read : (ls : List ℤ) → length ls ≡ 0 → IsRead (labels_data ls)
 none_read ls e = subst (λ ks. IsRead (labels_data ks)) (sym (nil_from_length ls e)) refl
