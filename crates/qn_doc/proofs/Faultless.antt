@@ -1,5 +1,5 @@
 -- Members whose labels are well formed, with an order of these and twisted ones among them, have no fault of labels, arrows, sectors, order or twisted labels.
-use Rattle.std.proofs.Common.{◌≡◌, ◌≢◌, ◌≤◌, ◌<◌, ℕ, zero, suc, ◌+◌, ℤ, pos, negsuc, Bool, true, false, not, ◌&&◌, ◌||◌, Some, List, [], ◌∷◌, length, take, get_or, refl, sym, ◌∙◌, ap, ap₂, ◌⊎◌, inl, inr, int_eq, int_lt, arith}
+use Rattle.std.proofs.Common.{◌≡◌, ◌≤◌, ◌<◌, ℕ, zero, suc, ◌+◌, ℤ, pos, negsuc, Bool, true, false, not, ◌&&◌, ◌||◌, Some, List, [], ◌∷◌, length, take, get_or, refl, sym, ◌∙◌, ap, ap₂, ◌⊎◌, inl, inr, int_eq, int_lt, arith}
 use Rattle.std.specs.List.{All, Contains}
 use Rattle.std.proofs.lemmas.Bool.{false≢true, or_cases, and_parts}
 use Rattle.qn_sign.specs.Sign.{is_in, IsDistinct}

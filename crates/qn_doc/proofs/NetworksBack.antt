@@ -24,7 +24,7 @@ use Rattle.qn_parts.specs.Sectors.{number_of}
 use Rattle.qn_parts.specs.Tensors.{is_tensor, tensor_of, tensor_fault, legs_data, leg_of, leg_fault}
 use Rattle.qn_json.specs.Texts.{list_data, whole_data}
 use Rattle.qn_parts.specs.TensorTexts.{factor_data, leg_data}
-use Rattle.qn_parts.specs.Documents.{group_data, factors_of}
+use Rattle.qn_parts.specs.Documents.{has_version, group_data, factors_of}
 use Rattle.qn_doc.specs.Combiners.{is_combiner, is_split, combiner_of, has_fused_leg, table_legs, table_fault, combiner_fault, IsTable}
 use Rattle.qn_doc.specs.Members.{is_member, numbers_of, member_value_of, labelled_of, member_fault}
 use Rattle.qn_doc.specs.Networks.{is_network_document, members_data, members_of, order_of, has_twist, twist_of, count_fault, head_fault, members_fault, parts_fault}
@@ -162,6 +162,10 @@ members_back fs (m ∷ ns) few all =
 
 -- the twisted labels
 
+has_version_back : (fs : List Factor) (order : List ℤ) (ms : List LabelledMember) (twist : List ℤ) → has_version (network_data fs order ms twist) ≡ true
+has_version_back fs order ms [] = refl
+has_version_back fs order ms (l ∷ ls) = refl
+
 has_twist_back : (fs : List Factor) (order : List ℤ) (ms : List LabelledMember) (twist : List ℤ) → All IsNumber twist → has_twist (network_data fs order ms twist) ≡ true
 has_twist_back fs order ms [] h = refl
 has_twist_back fs order ms (l ∷ ls) h = are_labels_back (l ∷ ls) h
@@ -192,7 +196,10 @@ module _ (fs : List Factor) (order : List ℤ) (ms : List LabelledMember) (twist
 
   document : is_network_document net ≡ true
   unfolding is_network_document
-  document = ap₂ (λ a b. a && b) (is_group_back fs h.group) (ap₂ (λ a b. a && b) are_members (ap₂ (λ a b. a && b) (are_labels_back order h.ordered) (has_twist_back fs order ms twist h.twisted)))
+  document =
+      ap₂ (λ a b. a && b) (has_version_back fs order ms twist)
+      (ap₂ (λ a b. a && b) (is_group_back fs h.group)
+      (ap₂ (λ a b. a && b) are_members (ap₂ (λ a b. a && b) (are_labels_back order h.ordered) (has_twist_back fs order ms twist h.twisted))))
 
   counted : count_fault net ≡ None
   counted = ap (λ b. fault_if b (fault 7 0 0 0)) (out (length (members_data net)) (omega (arith, ap length members_is, length-map ms member_data, h.some)) (omega (arith, ap length members_is, length-map ms member_data, h.few)))

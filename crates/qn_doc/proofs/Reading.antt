@@ -1,5 +1,5 @@
 -- Readers whose later faults are told by a relation.
-use Rattle.std.proofs.Common.{◌≡◌, List, inl, ap, subst, ◌∙◌, ℤ}
+use Rattle.std.proofs.Common.{◌≡◌, List, inl, subst, ◌∙◌, ℤ}
 use Rattle.std.specs.Prelude.{Option, Some, None}
 use Rattle.std.specs.Option.{option_or}
 use Rattle.qn_parts.specs.declared.fault.Fault.{Fault}

@@ -1,37 +1,13 @@
 -- The end of a network's text, with its twisted labels where there are any.
-use Rattle.std.proofs.Common.{◌≡◌, ◌<◌, ℕ, ℤ, List, [], ◌∷◌, ◌++◌, length, codes, Some, refl, sym, ◌∙◌, ap, subst, append_assoc, arith}
+use Rattle.std.proofs.Common.{◌≡◌, ◌<◌, ℤ, List, [], ◌∷◌, ◌++◌, length, codes, Some, refl, sym, ◌∙◌, ap, subst, append_assoc, arith}
 use Rattle.std.specs.Prelude.{Result, Ok, Err, OnOk, option_map}
+use Rattle.std.proofs.lemmas.List.{nil_from_length}
 use Rattle.json.specs.Token.{end_object, key}
 use Rattle.json.specs.Written.{Written}
 use Rattle.serde_json.specs.Data.{Data, Members, object, member, no_members, put}
 use Rattle.qn_json.specs.Appended.{tokens_of, Appends, IsRead}
 use Rattle.qn_json.proofs.Appending.{AppendsMembers, and_read, four_read}
 use Rattle.qn_doc.specs.NetworkTexts.{labels_data, twist_members, Closes}
-
--- where there are twisted labels, they are a member
-some_twists : (ls : List ℤ) → 0 < length ls → twist_members ls ≡ member (codes "twist") (labels_data ls) no_members
-some_twists [] l = absurd (omega (arith, l))
-some_twists (x ∷ ls) l = refl
-
-no_twists : (ls : List ℤ) → length ls ≡ 0 → ls ≡ []
-no_twists [] e = refl
-no_twists (x ∷ ls) e = absurd (omega (arith, e))
-
-pub closes_none : (ls : List ℤ) (old new : Written) → length ls ≡ 0 → new.tokens ≡ old.tokens ++ end_object ∷ [] → new.before ≡ old.before → Closes (twist_members ls) old new
-closes_none ls old new e tokens before = subst (λ ks. Closes (twist_members ks) old new) (sym (no_twists ls e)) (record { tokens = tokens; before = before })
-
-pub closes_some : (ls : List ℤ) (old named mid new : Written) → 0 < length ls → named.tokens ≡ old.tokens ++ key (codes "twist") ∷ [] → named.before ≡ old.before → Appends (labels_data ls) named mid →
-    new.tokens ≡ mid.tokens ++ end_object ∷ [] → new.before ≡ mid.before → Closes (twist_members ls) old new
-closes_some ls old named mid new l tk bk one te be = subst (λ ms. Closes ms old new) (sym (some_twists ls l)) (record {
-      tokens =
-          te ∙ ap (λ ts. ts ++ end_object ∷ []) (one.tokens ∙ ap (λ ts. ts ++ tokens_of (labels_data ls)) tk)
-          ∙ append_assoc (old.tokens ++ key (codes "twist") ∷ []) (tokens_of (labels_data ls)) (end_object ∷ [])
-          ∙ append_assoc old.tokens (key (codes "twist") ∷ []) (tokens_of (labels_data ls) ++ end_object ∷ []);
-      before = be ∙ one.before ∙ bk;
-    })
-
-pub none_read : (ls : List ℤ) → length ls ≡ 0 → IsRead (labels_data ls)
-none_read ls e = subst (λ ks. IsRead (labels_data ks)) (sym (no_twists ls e)) refl
 
 -- the tree of a network is read
 pub network_read : (q o m : Data) (ls : List ℤ) → IsRead q → IsRead o → IsRead m → IsRead (labels_data ls) → IsRead (object (member (codes "group") q (member (codes "order") o (member (codes "tensors") m (twist_members ls)))))

@@ -11,7 +11,7 @@ use Rattle.qn_index.specs.Legs.{SectorValue, LegValue}
 use Rattle.qn_index.specs.Places.{IsValues}
 use Rattle.qn_value.specs.Networks.{End, Node, Bond, Assignment, same_end, in_end, out_end, word, pairs_of, labels, kept, values, at_values, odd_flux, sign, IsNetwork}
 use Rattle.qn_value.specs.Tensors.{entry_of}
-use Rattle.qn_value.specs.Labels.{Placed, ends}
+use Rattle.qn_value.specs.Labels.{Placed}
 use Rattle.qn_value.specs.Local.{picked, no_leg, parities as leg_parities}
 use Rattle.qn_value.specs.Blocks.{legs_on}
 use Rattle.qn_value.proofs.NetLaws.{end_test}

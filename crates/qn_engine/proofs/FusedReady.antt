@@ -12,7 +12,7 @@ use Rattle.qn_charge.specs.Laws.{commutative_charge, zero_is_neutral}
 use Rattle.qn_index.specs.Legs.{LegValue, SectorValue, IsLegOf}
 use Rattle.qn_index.specs.Extents.{IsWithinLimits}
 use Rattle.qn_index.specs.Places.{IsValues}
-use Rattle.qn_value.specs.Networks.{End, Node, same_end, labels, kept, word}
+use Rattle.qn_value.specs.Networks.{End, Node, same_end, kept, word}
 use Rattle.qn_value.specs.Tensors.{TensorValue, IsTensor, entry_of}
 use Rattle.qn_value.specs.Labels.{Placed}
 use Rattle.qn_value.specs.Blocks.{legs_on}

@@ -38,7 +38,7 @@ use Rattle.qn_engine.specs.Labels.{labels_without, shared_labels, coupled_labels
 use Rattle.qn_engine.specs.Parts.{PartValue, placed_part, ArePartsOf, IsPartOf, IsSameTensor}
 use Rattle.qn_engine.specs.Carrying.{CanTake, is_odd_between, step_at, state_at, IsTraceAt, IsPairAt, IsMadeAt}
 use Rattle.qn_engine.specs.Twisting.{twisted_places}
-use Rattle.qn_engine.proofs.TwistedParts.{twisted_one, twisted_alone, twisted_same}
+use Rattle.qn_engine.proofs.TwistedParts.{twisted_one, twisted_alone}
 use Rattle.qn_engine.proofs.Naming.{names, shared_named, couples_named, all_stand}
 
 -- a settled part has the tensor of the group

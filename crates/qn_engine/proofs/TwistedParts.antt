@@ -9,8 +9,8 @@ use Rattle.qn_charge.specs.declared.factor.Factor.{Factor}
 use Rattle.qn_charge.specs.Charges.{parity}
 use Rattle.qn_index.specs.Legs.{SectorValue, LegValue, parity_at}
 use Rattle.qn_index.specs.Places.{IsValues}
-use Rattle.qn_value.specs.Networks.{End, Node, Bond, Parities, labels}
-use Rattle.qn_value.specs.Twists.{odd_among, twisted_at, is_twisted}
+use Rattle.qn_value.specs.Networks.{End, Bond, labels}
+use Rattle.qn_value.specs.Twists.{odd_among, is_twisted}
 use Rattle.qn_value.specs.Fluxes.{arrow_of}
 use Rattle.qn_value.specs.Blocks.{legs_on}
 use Rattle.qn_value.specs.Labels.{Placed, is_inward}
@@ -19,7 +19,7 @@ use Rattle.qn_value.proofs.BlockRows.{all-nil, all-cons}
 use Rattle.qn_value.proofs.NetLaws.{signed-zero}
 use Rattle.qn_value.proofs.Sums.{label_test}
 use Rattle.qn_net.specs.Groups.{TensorGroup}
-use Rattle.qn_net.specs.Operations.{parities_on, IsNodeOf, IsTensorOf, AreTwistedLines}
+use Rattle.qn_net.specs.Operations.{parities_on, IsTensorOf, AreTwistedLines}
 use Rattle.qn_net.specs.TwistedSteps.{twisted_group, twisted_where, twisted_inward}
 use Rattle.qn_net.proofs.Held.{entry_range, arrow_there}
 use Rattle.qn_twist.specs.Twisted.{leg_at, odd_values, Twisted}
@@ -191,10 +191,6 @@ pub twisted_alone : (fs : List Factor) (sectors : ℤ → List SectorValue) (tw 
     Twisted p.tensor (twisted_places false (labels bonds) tw 0 p.tensor.legs p.labels) a → IsTensorOf fs sectors (record { tensor = a; labels = p.labels }) (twisted_inward (parities_on fs sectors) bonds g)
 twisted_alone fs sectors tw bonds p g a lines =
     twisted_tensor fs sectors false (labels bonds) tw (λ e. e.inward && is_twisted bonds e) p g a (λ e. ap (λ t. e.inward && t) (marked_here tw sectors bonds lines e.label))
-
-pub nothing_there : (ks : List ℕ) → length ks ≡ 0 → ks ≡ []
-nothing_there [] e = refl
-nothing_there (k ∷ ks) e = absurd (omega (arith, e))
 
 -- a tensor that is twisted nowhere, or made from a table and then twisted
 pub twisted_nowhere : (t : TensorValue) → Twisted t [] t

@@ -1,5 +1,5 @@
 -- How far the engine has come on its way through the steps of a network.
-use Rattle.std.specs.Prelude.{◌≡◌, ◌≤◌, ◌<◌, ◌+◌, ℕ, ℤ, Bool, false, Option, Some, None, List, [], ◌∷◌, length, take, slice_index_or}
+use Rattle.std.specs.Prelude.{◌≡◌, ◌<◌, ◌+◌, ℕ, ℤ, Bool, false, Option, Some, None, List, [], ◌∷◌, length, take, slice_index_or}
 use Rattle.qn_gauss.specs.Gaussian.{zero_g}
 use Rattle.qn_index.specs.Tuples.{admitted}
 use Rattle.qn_value.specs.Networks.{labels, odd_flux}

@@ -1,15 +1,13 @@
 -- A chain with another tensor on a site, which has the same legs and the same flux, is a chain.
-use Rattle.std.proofs.Common.{◌≡◌, ◌≢◌, ◌≤◌, ◌<◌, ◌-◌, ◌^◌, ℕ, zero, suc, ◌⊎◌, inl, inr, List, [], ◌∷◌, length, set, get_or, refl, sym, ◌∙◌, ap, ap₂, subst, arith}
+use Rattle.std.proofs.Common.{◌≡◌, ◌≢◌, ◌≤◌, ◌<◌, ◌-◌, ◌^◌, ℕ, suc, ◌⊎◌, inl, inr, List, length, sym, ◌∙◌, ap, subst, arith}
 use Rattle.std.specs.Prelude.{None, slice_set}
-use Rattle.std.specs.List.{All}
 use Rattle.std.proofs.lemmas.Bool.{cases_eq}
 use Rattle.std.proofs.lemmas.List.{get_or-set_same, get_or-set_other, length-set}
 use Rattle.std.proofs.lemmas.List.Elements.{All-set}
-use Rattle.qn_charge.specs.declared.factor.Factor.{Factor}
 use Rattle.qn_charge.specs.Charges.{IsWithin}
 use Rattle.qn_index.specs.Legs.{LegValue, Meets}
 use Rattle.qn_block.specs.Blocked.{BlockedValue, IsBlocked}
-use Rattle.qn_braket.specs.Chains.{leg_at, no_tensor, tensor_at, AreLegsOf, HasLink, IsChain}
+use Rattle.qn_braket.specs.Chains.{leg_at, no_tensor, tensor_at, AreLegsOf, IsChain}
 use Rattle.qn_mps.specs.Chains.{ChainValue, IsTensorOf, IsHeld, with_tensor, legs_of}
 
 module _ (ts : List BlockedValue) (j : ℕ) (t : BlockedValue) (lt : j < length ts) where

@@ -1,4 +1,4 @@
-use Rattle.std.proofs.Common.{◌≡◌, ap, subst, ◌∙◌}
+use Rattle.std.proofs.Common.{◌≡◌, subst, ◌∙◌}
 use Rattle.qn_json.specs.Appended.{IsAlone}
 use Rattle.qn_json.proofs.Rereading.{alone}
 use Rattle.qn_doc.specs.NetworkTexts.{network_data}

@@ -1,5 +1,4 @@
-use Rattle.std.proofs.Common.{codes, map, ◌∙◌}
-use Rattle.std.proofs.lemmas.Result.{on_ok_weaker}
+use Rattle.std.proofs.Common.{codes, map}
 use Rattle.serde_json.specs.Data.{object, member}
 use Rattle.qn_json.specs.Appended.{Appends, IsRead}
 use Rattle.qn_json.specs.Texts.{list_data}

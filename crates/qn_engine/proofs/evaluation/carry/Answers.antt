@@ -1,4 +1,4 @@
-use Rattle.std.proofs.Common.{rules, ◌≡◌, ◌≤◌, ◌<◌, ◌+◌, ◌-◌, length, get_or, subst, sym, arith}
+use Rattle.std.proofs.Common.{◌≡◌, ◌≤◌, ◌<◌, ◌+◌, ◌-◌, length, get_or, subst, arith}
 use Rattle.qn_engine.specs.Carrying.{IsOnWay}
 use Rattle.qn_plan.specs.Planned.{StepValue}
 use Rattle.qn_engine.proofs.Evaluating.{on_next, on_more, costs_more, costs_less}

@@ -1,4 +1,3 @@
-use Rattle.std.proofs.Common.{◌∙◌, lit<, ap, length}
 use Rattle.qn_engine.proofs.Evaluating.{never_wide}
 use Rattle.qn_engine.proofs.evaluation.evaluate.Goals as goal
 

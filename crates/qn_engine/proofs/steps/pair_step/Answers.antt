@@ -40,7 +40,7 @@ contract-requires-after_bounds g c = λ κs h. (
     (pair_at c.pair_step_law.ensures c.requires.step.0 c.args.done c.args.first c.args.second c.args.between_odd c.args.summed.now c.args.twist.now c.requires.step.1 c.get-a.result.now c.get-b.result.now c.deref-4.result.now
         (c.entries_of_blocks.ensures.tensor c.get-a.result.now c.known.ensures) (c.entries_of_blocks.ensures.tensor c.get-b.result.now c.known-2.ensures)
         (twist_at true c.args.summed.now c.args.twist.now c.deref.result.now _ _ c.get-a.result.now c.args.first c.get-a.ensures (ap (λ (p : PartValue). p.member) c.first.view_is)
-    (c.deref.ensures.value ∙ ap (λ (p : PartValue). p.labels) c.first.view_is) c.in_ok-one.ensures)
+        (c.deref.ensures.value ∙ ap (λ (p : PartValue). p.labels) c.first.view_is) c.in_ok-one.ensures)
         (same_at _ c.get-b.result.now _ c.args.second c.get-b.ensures (ap (λ (p : PartValue). p.member) c.second.view_is) c.in_ok-two.ensures)
         (c.deref-4.ensures.value ∙ c.in_ok-shared.ensures
         ∙ ap₂ (λ (ks ls : List ℤ). shared_labels ks ls c.args.summed.now) (c.deref-2.ensures.value ∙ ap (λ (p : PartValue). p.labels) c.first.view_is) (c.deref-3.ensures.value ∙ ap (λ (p : PartValue). p.labels) c.second.view_is))).can,

@@ -32,7 +32,7 @@ trace-requires g c = (
   lit< tt,
   (trace_at c.trace_step_law.ensures c.requires.step.0 c.args.done c.args.part c.args.summed.now c.args.twist.now c.requires.step.1 c.get-a.result.now c.deref-3.result.now (c.entries_of_blocks.ensures.tensor c.get-a.result.now c.known.ensures)
       (twist_at false c.args.summed.now c.args.twist.now c.deref.result.now _ _ c.get-a.result.now c.args.part c.get-a.ensures (ap (λ (p : PartValue). p.member) c.part.view_is)
-    (c.deref.ensures.value ∙ ap (λ (p : PartValue). p.labels) c.part.view_is) c.in_ok-tensor.ensures)
+      (c.deref.ensures.value ∙ ap (λ (p : PartValue). p.labels) c.part.view_is) c.in_ok-tensor.ensures)
       (c.deref-3.ensures.value ∙ c.in_ok-couples.ensures ∙ ap (λ (ls : List ℤ). coupled_labels ls c.args.summed.now) (c.deref-2.ensures.value ∙ ap (λ (p : PartValue). p.labels) c.part.view_is))).coupling,
 )
 
