@@ -76,7 +76,7 @@ module _ (test : ℕ → Bool) where
   slots_like n (x ∷ xs) [] h = absurd h
   slots_like n (x ∷ xs) (y ∷ ys) h = ap₂ (λ (us vs : List Slot). us ++ vs) h.0.slots_same (slots_like (suc n) xs ys h.1)
 
-  network_like : (fs : List Factor) (xs ys : List LabelledMember) → AreLike test 1 xs ys → IsReplaced test (network_of fs xs None) (network_of fs ys None)
+  network_like : (fs : List Factor) (xs ys : List LabelledMember) → AreLike test 1 xs ys → IsReplaced test (network_of fs xs None []) (network_of fs ys None [])
   network_like fs xs ys h =
       let e = slots_like 1 xs ys h in
       record {
@@ -198,7 +198,7 @@ module _ (n j : ℕ) where
 pub put_law : PutLaw
 put_law fs bra op ket bra' ket' j old new x y lo lk lt pb pk =
     subst (λ z. IsReplaced (of_site (length bra) j) z new) (sym x.2)
-    (subst (IsReplaced (of_site (length bra) j) (expect_network fs x.0 op ket)) (sym (y.2 ∙ ap (λ ms. network_of fs ms None) same_labels))
+    (subst (IsReplaced (of_site (length bra) j) (expect_network fs x.0 op ket)) (sym (y.2 ∙ ap (λ ms. network_of fs ms None []) same_labels))
     (network_like (of_site (length bra) j) fs (expect_members x.0 op ket) new_members like))
   where
     n : ℕ
