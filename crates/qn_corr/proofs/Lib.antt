@@ -1,0 +1,10 @@
+pub mod Environments
+pub mod Values
+pub mod Costs
+pub mod Finals
+pub mod Agreeing
+pub mod Starting
+pub mod Changes
+pub mod Again
+pub mod Resumed
+pub mod Replacing
