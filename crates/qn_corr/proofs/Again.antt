@@ -22,7 +22,7 @@ use Rattle.qn_sweep.specs.Putting.{StaysBefore, StaysBeforeLaw}
 use Rattle.qn_corr.specs.Sweeping.{IsSweepAt, IsEnvironment, AreEnvironments, with_environment, IsResumed}
 use Rattle.qn_corr.specs.Correlators.{CorrValue, AreMatched, IsNetworkOf, IsKept, IsChanged, IsRest}
 use Rattle.qn_corr.proofs.Environments.{parts_resumed, same_holder, environments_at}
-use Rattle.qn_corr.proofs.Starting.{ops_long, kets_long, few_sites, some_sites}
+use Rattle.qn_corr.proofs.Starting.{ops_long, kets_long, few_sites, some_sites, no_twists}
 
 -- environments one after another
 envs_append : (net : NetworkValue) (n j : ℕ) (ps qs : List PartValue) (k : ℕ) → k ≡ j + length ps → AreEnvironments net n j ps → AreEnvironments net n k qs → AreEnvironments net n j (ps ++ qs)
@@ -147,7 +147,7 @@ module _ (before : StaysBeforeLaw) (swept : LeftToRightLaw) (c : CorrValue) (m :
 
     module _ (ready : first_wide net ≡ None → AreReady net) (place : passing_place net ≡ first_admissible_step (parities net) net.group (sectors net) 1 (steps net)) where
       sweep_first : (vs : List PartValue) → IsCarried net 0 vs → IsSweepAt net plan (length c.bra.tensors) 0 vs
-      sweep_first vs begins = record { formed = w; sweep = sweep_new; way = on_start net plan vs plan_again ready narrow_again place begins }
+      sweep_first vs begins = record { formed = w; sweep = sweep_new; way = on_start net plan [] vs plan_again (no_twists c net x) ready narrow_again place begins }
 
       sweep_later : (ps : List PartValue) (p : PartValue) → 0 < j → IsCarried net 0 ps → p ≡ get_or kept (j - 1) p → IsSweepAt net plan (length c.bra.tensors) j (with_environment (length c.bra.tensors) j ps p)
       sweep_later ps p some begins e =
@@ -160,6 +160,7 @@ module _ (before : StaysBeforeLaw) (swept : LeftToRightLaw) (c : CorrValue) (m :
             sweep = sweep_new;
             way = record {
               is = plan_again;
+              twists = no_twists c net x;
               ready = ready narrow_again;
               narrow = narrow_again;
               place = place;

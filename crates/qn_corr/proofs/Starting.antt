@@ -1,5 +1,5 @@
 -- Before the first step of an expectation.
-use Rattle.std.proofs.Common.{◌≡◌, ◌≤◌, ◌<◌, ℕ, None, List, length, sym, ◌∙◌, ap, subst}
+use Rattle.std.proofs.Common.{◌≡◌, ◌≤◌, ◌<◌, ℕ, None, List, [], length, sym, ◌∙◌, ap, subst}
 use Rattle.qn_index.specs.Legs.{LegValue}
 use Rattle.qn_net.specs.Passing.{first_admissible_step}
 use Rattle.qn_net.specs.NetworkValues.{NetworkValue, IsWellFormed, parities, sectors, steps, passing_place}
@@ -11,6 +11,10 @@ use Rattle.qn_engine.proofs.Evaluating.{on_start}
 use Rattle.qn_sweep.specs.LeftToRight.{LeftToRightLaw}
 use Rattle.qn_corr.specs.Sweeping.{IsSweepAt}
 use Rattle.qn_corr.specs.Correlators.{CorrValue, AreMatched, IsNetworkOf}
+
+-- no label of the network is twisted
+pub no_twists : (c : CorrValue) (net : NetworkValue) → IsNetworkOf c net → [] ≡ net.twists
+no_twists c net x = sym (ap (λ (z : NetworkValue). z.twists) x.2)
 
 -- the chains have as many tensors as sites, and so as many as each other
 module _ (c : CorrValue) (m : AreMatched c.bra c.op c.ket) (hb : IsHeld c.bra) (ho : IsHeld c.op) (hk : IsHeld c.ket) where
@@ -31,7 +35,7 @@ module _ (c : CorrValue) (m : AreMatched c.bra c.op c.ket) (hb : IsHeld c.bra) (
   sweep_start law net x w plan ps e ready narrow place k = record {
     formed = w;
     sweep = law c.bra.group c.bra.tensors c.op.tensors c.ket.tensors net w x some_sites few_sites ops_long kets_long;
-    way = on_start net plan ps e ready narrow place k;
+    way = on_start net plan [] ps e (no_twists c net x) ready narrow place k;
   }
 
   -- however the sites are counted
