@@ -1,5 +1,5 @@
 -- How many multiplications were done.
-use Rattle.std.proofs.Common.{◌≡◌, ◌⊎◌, inl, inr, ℕ, ◌+◌, ◌≤◌, List, Option, None, Some, refl}
+use Rattle.std.proofs.Common.{◌≡◌, ◌⊎◌, inl, inr, ℕ, ◌+◌, ◌≤◌, List, None, refl}
 use Rattle.qn_charge.specs.Firsts.{HasNone}
 use Rattle.qn_net.specs.NetworkValues.{NetworkValue}
 use Rattle.qn_plan.specs.Planned.{first_wide, cost_of_plan}

@@ -1,5 +1,5 @@
 -- The text of the network of the chain that was built is that of the automaton.
-use Rattle.std.proofs.Common.{◌≡◌, ◌-◌, ℕ, None, List, length, ◌∙◌, ap, subst}
+use Rattle.std.proofs.Common.{[], ◌≡◌, ◌-◌, ℕ, None, List, length, ◌∙◌, ap, subst}
 use Rattle.std.specs.List.{All}
 use Rattle.qn_charge.specs.declared.factor.Factor.{Factor}
 use Rattle.qn_block.specs.Blocked.{BlockedValue, IsBlocked}

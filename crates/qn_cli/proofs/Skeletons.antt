@@ -12,7 +12,6 @@ use Rattle.qn_net.specs.Groups.{Member}
 use Rattle.qn_net.specs.Members.{LabelledMember, placed_member, slots_of_members}
 use Rattle.qn_net.specs.NetworkValues.{PlacedMember, member_of}
 use Rattle.qn_net.specs.Refusals.{network_of, positives}
-use Rattle.qn_plan.specs.Planned.{first_wide}
 use Rattle.qn_braket.specs.ChainLabels.{state_labels, operator_labels, expect_upper, expect_lower, expect_bra, expect_op, expect_ket}
 use Rattle.qn_braket.specs.Chains.{with_labels, back_with_labels, expect_members, expect_network, tensor_at, no_tensor}
 use Rattle.qn_cli.specs.Operators.{site_tensor, automaton}

@@ -9,7 +9,7 @@ use Rattle.qn_braket.specs.Chains.{IsChain, IsOperatorChain, element}
 use Rattle.qn_mps.specs.Chains.{ChainValue, IsHeld, legs_of}
 use Rattle.qn_mps.specs.declared.chain.ChainKind.{ChainKind}
 use Rattle.qn_mpo.specs.Builds.{IsBuilt}
-use Rattle.qn_cli.specs.Operators.{automaton, HasElements, IsSumIn}
+use Rattle.qn_cli.specs.Operators.{HasElements, IsSumIn}
 use Rattle.qn_cli.proofs.Automata.{tensors_are}
 use Rattle.qn_cli.proofs.Outcomes.{one_sum}
 
