@@ -1,0 +1,5 @@
+pub mod Lawful
+pub mod Listed
+pub mod Meanings
+pub mod Parts
+pub mod Tables

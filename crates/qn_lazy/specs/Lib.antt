@@ -1,0 +1,4 @@
+pub mod Asked
+pub mod Examples
+pub mod LegRules
+pub mod Meaning

@@ -1,0 +1,18 @@
+//! Rules contracted with tensors: a rule is a function kept as the entries of a tensor, of which only what a contraction needs
+//! is asked.
+//!
+//! For commands that apply functions to the legs of a tensor. It hands on `contract_lazy`, and `LegRule`, whose rule
+//! weighs the values of one leg.
+#![tactic(auto)]
+
+mod asking;
+mod contraction;
+pub mod laws;
+mod leg_rule;
+mod meeting;
+#[cfg(test)]
+mod tests;
+mod written;
+
+pub use contraction::contract_lazy;
+pub use leg_rule::LegRule;
