@@ -1,7 +1,7 @@
 -- The table of a rule of one leg.
-use Rattle.std.proofs.Common.{◌≡◌, ◌≢◌, ◌≤◌, ◌<◌, ℕ, zero, suc, ◌+◌, ◌==◌, ℤ, Bool, true, false, ◌&&◌, cond, List, [], ◌∷◌, refl, sym, ◌∙◌, ap, ap₂, subst, map, length, get_or, eqb-true, eq-eqb, arith}
+use Rattle.std.proofs.Common.{◌≡◌, ◌≤◌, ◌<◌, ℕ, zero, suc, ◌+◌, ◌==◌, ℤ, Bool, true, false, ◌&&◌, cond, List, [], ◌∷◌, refl, sym, ◌∙◌, ap, ap₂, subst, map, length, get_or, eqb-true, arith}
 use Rattle.std.specs.List.{All, range_with_len}
-use Rattle.std.proofs.lemmas.Bool.{ne_eqb, true≢false}
+use Rattle.std.proofs.lemmas.Bool.{ne_eqb, eqb-false}
 use Rattle.qn_gauss.specs.Gaussian.{Gaussian, zero_g, signed}
 use Rattle.qn_charge.specs.declared.factor.Factor.{Factor}
 use Rattle.qn_charge.specs.Charges.{IsGroup, zero_charge}
@@ -17,6 +17,9 @@ use Rattle.qn_lazy.specs.LegRules.{LegRuleValue, legs_of, weight_of, entry_of_ru
 use Rattle.qn_lazy.specs.Meaning.{HasTableLaw, answers_of, as_rule}
 use Rattle.qn_lazy.proofs.Lawful.{both_charges}
 
+beyond : (a v : ℕ) → a ≤ v → (a ≡ v → ⊥) → a + 1 ≤ v
+beyond a v le other = grind (arith, le, other)
+
 module _ (r : LegRuleValue) where
   abbrev row : ℕ → Row
   row v = record { values = v ∷ v ∷ []; entry = entry_of_rule r (v ∷ v ∷ []) }
@@ -31,28 +34,22 @@ module _ (r : LegRuleValue) where
       ap (λ b. cond (b && ((a == w) && true)) (entry_of_rule r (a ∷ a ∷ [])) (entry_at (rows (a + 1) n) (v ∷ w ∷ []))) (ne_eqb a v (λ e. absurd (omega (arith, e, l))))
       ∙ miss (a + 1) n v w (omega (arith, l))
 
+  abbrev later : ℕ → ℕ → ℕ → ℕ → Gaussian
+  later a n v w = entry_at (rows (a + 1) n) (v ∷ w ∷ [])
+
   hit : (a n v w : ℕ) → a ≤ v → v < a + n → entry_at (map row (range_with_len a n)) (v ∷ w ∷ []) ≡ entry_of_rule r (v ∷ w ∷ [])
   hit a zero v w le l = absurd (omega (arith, le, l))
-  hit a (suc n) v w le l = go (a == v) refl (a == w) refl
+  hit a (suc n) v w le l = go (a == v) refl (a == w) refl (λ more. hit (a + 1) n v w more (omega (arith, l)))
     where
-      abbrev later : Gaussian
-      later = entry_at (rows (a + 1) n) (v ∷ w ∷ [])
-
-      go : (b : Bool) → (a == v) ≡ b → (c : Bool) → (a == w) ≡ c → cond ((a == v) && ((a == w) && true)) (entry_of_rule r (a ∷ a ∷ [])) later ≡ entry_of_rule r (v ∷ w ∷ [])
-      go false e c f =
-          ap (λ b. cond (b && ((a == w) && true)) (entry_of_rule r (a ∷ a ∷ [])) later) e
-          ∙ hit (a + 1) n v w (next (λ h. true≢false (sym (same h) ∙ e))) (omega (arith, l))
-        where
-          same : a ≡ v → (a == v) ≡ true
-          same h = eq-eqb a v h
-
-          next : (a ≢ v) → a + 1 ≤ v
-          next h = omega (arith, h, le)
-      go true e true f =
-          ap₂ (λ b c. cond (b && (c && true)) (entry_of_rule r (a ∷ a ∷ [])) later) e f
+      go : (b : Bool) → (a == v) ≡ b → (c : Bool) → (a == w) ≡ c → (a + 1 ≤ v → later a n v w ≡ entry_of_rule r (v ∷ w ∷ [])) →
+          cond ((a == v) && ((a == w) && true)) (entry_of_rule r (a ∷ a ∷ [])) (later a n v w) ≡ entry_of_rule r (v ∷ w ∷ [])
+      go false e c f ih =
+          ap (λ b. cond (b && ((a == w) && true)) (entry_of_rule r (a ∷ a ∷ [])) (later a n v w)) e ∙ ih (beyond a v le (eqb-false a v e))
+      go true e true f ih =
+          ap₂ (λ b c. cond (b && (c && true)) (entry_of_rule r (a ∷ a ∷ [])) (later a n v w)) e f
           ∙ ap₂ (λ x y. entry_of_rule r (x ∷ y ∷ [])) (eqb-true a v e) (eqb-true a w f)
-      go true e false f =
-          ap₂ (λ b c. cond (b && (c && true)) (entry_of_rule r (a ∷ a ∷ [])) later) e f
+      go true e false f ih =
+          ap₂ (λ b c. cond (b && (c && true)) (entry_of_rule r (a ∷ a ∷ [])) (later a n v w)) e f
           ∙ (miss (a + 1) n v w (omega (arith, eqb-true a v e))
           ∙ sym (ap (λ b. cond b (signed (is_inward r.leg.arrow && parity_at r.group r.leg.sectors v) (weight_of r.leg r.part v)) zero_g) (ap (λ x. x == w) (sym (eqb-true a v e)) ∙ f)))
 
@@ -75,13 +72,13 @@ module _ (r : LegRuleValue) where
 pub has_table_law : HasTableLaw
 has_table_law r g s h = record {
   tensor = record {
-      group = g;
-      legs = all-cons IsSound r.leg (flipped r.leg ∷ []) s (all-cons IsSound (flipped r.leg) [] s (all-nil IsSound));
-      charges = both_charges r h;
-      flux = canonical_zero r.group g;
-      rows = conserve r 0 (total r.leg.sectors) g h (omega arith);
-      distinct = distinct r 0 (total r.leg.sectors);
-    };
+    group = g;
+    legs = all-cons IsSound r.leg (flipped r.leg ∷ []) s (all-cons IsSound (flipped r.leg) [] s (all-nil IsSound));
+    charges = both_charges r h;
+    flux = canonical_zero r.group g;
+    rows = conserve r 0 (total r.leg.sectors) g h (omega arith);
+    distinct = distinct r 0 (total r.leg.sectors);
+  };
   group = refl;
   legs = refl;
   flux = refl;
