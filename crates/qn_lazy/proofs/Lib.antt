@@ -1,3 +1,4 @@
+pub mod Applied
 pub mod Lawful
 pub mod Listed
 pub mod Meanings

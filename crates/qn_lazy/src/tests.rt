@@ -1,22 +1,19 @@
-//! Rules of a leg contracted with small tensors, as a table.
-ghost use Rattle.std.specs.Prelude.{◌≡◌, ◌<◌, ◌∷◌, [], IfOk};
+//! Rules carried out on small tensors, as a table.
+ghost use Rattle.std.specs.Prelude.{◌≡◌, ◌<◌, IfOk, length, slice_index_or};
 ghost use Rattle.std.specs.List.{All};
 ghost use Rattle.qn_charge.specs.Charges.{zero_charge};
 ghost use Rattle.qn_index.specs.Legs.{IsLegOf};
 ghost use Rattle.qn_index.specs.Tuples.{IsFlux};
 ghost use Rattle.qn_index.specs.Extents.{IsWithinLimits};
-ghost use Rattle.qn_lazy.specs.Asked.{IsRulePair};
+ghost use Rattle.qn_value.specs.Local.{no_leg};
 ghost use Rattle.qn_lazy.specs.LegRules.{IsPartOf, legs_of};
 
-use crate::laws::one_answer_law;
 use crate::leg_rule::both_legs;
-use crate::{LegRule, contract_lazy};
+use crate::{LegRule, apply_rule};
 use qn_block::{Block, BlockTensor, StepFault};
 use qn_charge::{Abelian, Charge, Factor, Group};
 use qn_gauss::{Gauss, Steps};
 use qn_index::{Dir, Leg, Sector, Tuple};
-use qn_match::are_paired;
-use qn_rule::CountedRule;
 use std::alloc::{AllocError, Global};
 use std::marker::Brand;
 use std::process::Abort;
@@ -41,8 +38,7 @@ enum Answer<'a> {
 }
 
 // Whether the factor of the group is a fermion's, the legs, the flux and the blocks of a tensor, the place of a leg, the
-// rules that are contracted in turn with the leg there, each by the part of the charge that is the weight or none, and the
-// answer. A rule's leg stands first in what it is contracted to.
+// rules of it in turn, each by the part of the charge that is the weight or none, and the answer.
 type Row<'a> = (
     bool,
     &'a [LegRow<'a>],
@@ -184,33 +180,6 @@ fn expect_shape<const K: usize>(
     }
 }
 
-// The rule and the tensor can be contracted over the rule's second leg and the leg at this place.
-fn expect_pair<const K: usize>(
-    rt: &impl Abort,
-    alloc: Global,
-    rule: &CountedRule<K, LegRule<K>>,
-    t: &BlockTensor<K>,
-    place: usize,
-) -> Result<(), AllocError>
-    requires { rule.now.group ≡ t.now.group }
-    ensures { IfOk result (λ u. IsRulePair rule.now t.now ((1, place) ∷ [])) }
-{
-    rule.known();
-    t.known();
-    assert!(rt;
-        are_paired(
-            alloc,
-            t.group(),
-            rule.legs(),
-            rule.flux(),
-            t.legs(),
-            t.flux(),
-            &[(1, place)]
-        )?
-    );
-    Ok(())
-}
-
 // The leg at a place.
 fn leg_at<const K: usize>(
     rt: &impl Abort,
@@ -218,7 +187,9 @@ fn leg_at<const K: usize>(
     t: &BlockTensor<K>,
     place: usize,
 ) -> Result<Leg<K>, AllocError>
-    ensures { IfOk result (IsLegOf t.now.group) }
+    ensures place { IfOk result (λ l. place < length t.now.legs) }
+    ensures leg { IfOk result (λ l. l ≡ slice_index_or t.now.legs place no_leg) }
+    ensures charges { IfOk result (IsLegOf t.now.group) }
 {
     t.known();
     let legs = t.legs();
@@ -229,7 +200,7 @@ fn leg_at<const K: usize>(
     }
 }
 
-// The contraction of a rule of the leg at this place, that leg first.
+// The tensor after a rule of the leg at this place.
 fn weighed<const K: usize, R: Abort + Threads + Sync, L: Ledger, M: Ledger>(
     steps: &mut Steps<L>,
     asks: &mut Steps<M>,
@@ -243,10 +214,8 @@ fn weighed<const K: usize, R: Abort + Threads + Sync, L: Ledger, M: Ledger>(
 {
     let leg = leg_at(rt, alloc, t, place)?;
     expect_shape(rt, alloc, t.group(), &leg)?;
-    let rule = LegRule::new(*t.group(), leg, part).rule(alloc)?;
-    expect_pair(rt, alloc, &rule, t, place)?;
-    one_answer_law();
-    contract_lazy(rt, alloc, &rule, t, &[(1, place)], false, steps, asks)
+    let rule = LegRule::new(*t.group(), leg, part);
+    apply_rule(rt, alloc, rule, t, place, steps, asks)
 }
 
 fn expect_blocks(
@@ -398,7 +367,7 @@ const CASES: &[Row<'static>] = &[
         &[Some(0), None, Some(0)],
         Answer::Blocks(&[(&[2], &[20])]),
     ),
-    // The second of two legs with odd values: the rule's leg stands before an odd value, and not behind it.
+    // The second of two legs with odd values: the rule's leg goes back past an odd value.
     (
         true,
         &[(Dir::Out, SITE), (Dir::In, SITE)],
@@ -406,9 +375,9 @@ const CASES: &[Row<'static>] = &[
         &[(&[0, 0], &[2]), (&[1, 1], &[3])],
         1,
         &[None],
-        Answer::Blocks(&[(&[0, 0], &[2]), (&[1, 1], &[-3])]),
+        Answer::Blocks(&[(&[0, 0], &[2]), (&[1, 1], &[3])]),
     ),
-    // Twice 2^126 is above 2^127 - 1.
+    // Twice 2^126 is above 2^127 - 1. The place is one of the legs before they are put back.
     (
         false,
         &[(Dir::In, SITE), LEVELS],
