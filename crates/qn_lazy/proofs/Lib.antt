@@ -1,4 +1,5 @@
 pub mod Applied
+pub mod Keyed
 pub mod Lawful
 pub mod Listed
 pub mod Meanings
