@@ -1,6 +1,6 @@
 -- Rules of the open legs of a network in a document: their form, their first fault, and what they stand for.
 -- Source: NCON, arXiv:1402.0939, for the numbers of open legs; Singh, Pfeifer and Vidal 2010.
-use Rattle.std.specs.Prelude.{◌≡◌, ◌⊎◌, ℕ, ◌+◌, ◌^◌, ◌==◌, ℤ, pos, negsuc, int_le, int_eq, int_neg, unsigned_abs, nat_le, nat_lt, List, [], ◌∷◌, length, map, Bool, not, ◌&&◌, ◌||◌, cond, Option, Some, None, is_some, codes}
+use Rattle.std.specs.Prelude.{◌≡◌, ◌⊎◌, ℕ, ◌+◌, ◌-◌, ◌^◌, ℤ, pos, negsuc, int_le, int_eq, unsigned_abs, nat_le, nat_lt, List, [], ◌∷◌, length, map, Bool, not, ◌&&◌, ◌||◌, cond, Option, Some, None, is_some, codes}
 use Rattle.serde_json.specs.Data.{Data}
 use Rattle.serde_json.specs.Find.{get, as_str}
 use Rattle.qn_charge.specs.declared.factor.Factor.{Factor}
@@ -83,7 +83,7 @@ abbrev pub rule_fault : NetworkValue → ℕ → Data → Option Fault
 rule_fault net n d =
     fault_if (not (is_known (length net.group) d)) (fault 42 (400 + n) 0 0)
     then fault_if (not (is_open net (open_of d))) (fault 43 (400 + n) 0 0)
-    then fault_if (is_wide net.group (leg_with (legs_of net) (int_neg (open_of d)))) (fault 44 (400 + n) 0 0)
+    then fault_if (is_wide net.group (leg_with (legs_of net) (negsuc (unsigned_abs (open_of d) - 1)))) (fault 44 (400 + n) 0 0)
 
 abbrev pub rules_fault : NetworkValue → Data → Option Fault
 rules_fault net d = first_of (rule_fault net) (rules_data d)
