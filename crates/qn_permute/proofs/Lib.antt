@@ -1,5 +1,5 @@
 mod Columns
 mod Lines
-mod Widths
+pub mod Widths
 mod Sorted
 mod Moves
