@@ -1,6 +1,6 @@
 -- A diagonal rule conserves charge.
-use Rattle.std.proofs.Common.{◌≡◌, ◌≢◌, ◌<◌, ℕ, ℤ, ◌==◌, Bool, true, false, ◌&&◌, cond, List, [], ◌∷◌, length, refl, sym, ◌∙◌, ap, ap₂, subst, eqb-true}
-use Rattle.qn_gauss.specs.Gaussian.{Gaussian, zero_g, signed}
+use Rattle.std.proofs.Common.{◌≡◌, ◌<◌, ℕ, ℤ, ◌==◌, Bool, true, false, ◌&&◌, cond, List, [], ◌∷◌, refl, sym, ◌∙◌, ap, eqb-true}
+use Rattle.qn_gauss.specs.Gaussian.{zero_g, signed}
 use Rattle.qn_charge.specs.declared.factor.Factor.{Factor}
 use Rattle.qn_charge.specs.Charges.{IsGroup, IsCanonical, zero_charge, sum_charge, neg_charge}
 use Rattle.qn_charge.specs.Laws.{commutative_charge, zero_is_neutral, neg_is_inverse, canonical_neg}
@@ -11,7 +11,7 @@ use Rattle.qn_index.specs.Tuples.{turned, net}
 use Rattle.qn_index.specs.Places.{sectors_at}
 use Rattle.qn_index.proofs.Sectors.{place_of_value}
 use Rattle.qn_value.specs.Labels.{is_inward}
-use Rattle.qn_diagonal.specs.Diagonal.{diagonal_entry, DiagonalConservesLaw}
+use Rattle.qn_diagonal.specs.Diagonal.{DiagonalConservesLaw}
 
 cancels : (fs : List Factor) (c : List ℤ) → IsGroup fs → IsCanonical fs c → (d : Dir) → sum_charge fs (turned fs d c) (sum_charge fs (turned fs (other_way d) c) (zero_charge fs)) ≡ zero_charge fs
 cancels fs c g h Out =

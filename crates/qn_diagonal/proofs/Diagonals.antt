@@ -1,14 +1,13 @@
 -- The laws of diagonal rules.
-use Rattle.std.proofs.Common.{◌≡◌, ◌<◌, ℕ, suc, ◌+◌, ◌-◌, ◌*◌, false, List, [], ◌∷◌, ◌++◌, refl, sym, ◌∙◌, ap, ap₂, subst, map, length, get_or, arith}
+use Rattle.std.proofs.Common.{◌≡◌, ◌<◌, ℕ, suc, ◌+◌, ◌-◌, ◌*◌, false, List, [], ◌∷◌, ◌++◌, sym, ◌∙◌, ap, ap₂, subst, length, get_or, arith}
 use Rattle.std.specs.List.{range_with_len}
 use Rattle.std.proofs.lemmas.List.{map-append}
-use Rattle.qn_gauss.specs.Gaussian.{Gaussian, mul_g, mag, signed}
+use Rattle.qn_gauss.specs.Gaussian.{Gaussian, mag, signed}
 use Rattle.qn_gauss.proofs.Ring.{one_mul}
 use Rattle.qn_charge.specs.Laws.{zero_is_neutral}
-use Rattle.qn_index.specs.Legs.{LegValue}
 use Rattle.qn_index.specs.Places.{IsValues}
 use Rattle.qn_value.specs.Tensors.{TensorValue, IsTensor, entry_of}
-use Rattle.qn_value.specs.Local.{no_leg, picked, moving_sign, pair_entry, Moved, Pairwise}
+use Rattle.qn_value.specs.Local.{no_leg, picked, moving_sign, Moved, Pairwise}
 use Rattle.qn_value.specs.Magnitudes.{pair_magnitude}
 use Rattle.qn_block.proofs.Lookup.{values_length}
 use Rattle.qn_value.proofs.CoupledLemmas.{leg_at}

@@ -1,12 +1,12 @@
 -- A diagonal tensor in a network with one other: what the contraction is worth.
-use Rattle.std.proofs.Common.{◌≡◌, ◌<◌, ℕ, zero, suc, ◌+◌, ◌*◌, ◌==◌, ℤ, Bool, true, false, ◌&&◌, cond, List, [], ◌∷◌, ◌++◌, refl, sym, ◌∙◌, ap, ap₂, subst, map, append-nil, eqb-true, eq-eqb, int_eq, arith}
+use Rattle.std.proofs.Common.{◌≡◌, ◌<◌, ℕ, zero, suc, ◌+◌, ◌*◌, ◌==◌, Bool, true, false, ◌&&◌, cond, List, [], ◌∷◌, ◌++◌, refl, sym, ◌∙◌, ap, ap₂, append-nil, eqb-true, eq-eqb, int_eq, arith}
 use Rattle.std.proofs.lemmas.Bool.{ne_eqb, eqb-false}
 use Rattle.std.proofs.lemmas.List.{map-append}
-use Rattle.qn_sign.specs.Sign.{is_in, xor, exchange_sign, IsDistinct, Perm}
+use Rattle.qn_sign.specs.Sign.{xor, exchange_sign, IsDistinct}
 use Rattle.qn_gauss.specs.Gaussian.{Gaussian, zero_g, one_g, add_g, mul_g, mag, signed}
 use Rattle.qn_gauss.proofs.Ring.{zero_add, add_zero, zero_mul, mul_one}
 use Rattle.qn_gauss.proofs.Signs.{signed-zero, signed-mul, signed-twice, mag_signed}
-use Rattle.qn_value.specs.Networks.{End, Node, Bond, Assignment, Parities, assign, in_end, out_end, same_end, odd_end, pairs_of, goal, word, sign, order_sign, product, values, sum_below, sums, flat}
+use Rattle.qn_value.specs.Networks.{End, Node, Bond, Assignment, Parities, assign, in_end, out_end, same_end, odd_end, sign, order_sign, product, values, sum_below, flat}
 use Rattle.qn_value.specs.Magnitudes.{total_below, total, magnitudes}
 use Rattle.qn_value.proofs.NetLaws.{end_test}
 use Rattle.qn_value.proofs.Sums.{label_test}

@@ -1,25 +1,22 @@
 -- The word of a diagonal tensor's legs and those of the tensor that it is contracted with, by places.
-use Rattle.std.proofs.Common.{◌≡◌, ◌≢◌, ◌≤◌, ◌<◌, ℕ, zero, suc, ◌+◌, ◌==◌, ℤ, pos, negsuc, Bool, true, false, not, ◌&&◌, ◌||◌, cond, None, List, [], ◌∷◌, ◌++◌, refl, sym, ◌∙◌, ap, ap₂, subst, map, filter, length, get_or, append-nil, zero-add, eqb-true, eq-eqb, int_eq, arith}
-use Rattle.std.specs.List.{All, range_with_len}
+use Rattle.std.proofs.Common.{◌≡◌, ◌≢◌, ◌<◌, ℕ, zero, suc, ◌+◌, ◌==◌, pos, Bool, true, false, not, ◌||◌, cond, None, List, [], ◌∷◌, ◌++◌, refl, sym, ◌∙◌, ap, ap₂, map, filter, length, get_or, eq-eqb, int_eq, arith}
+use Rattle.std.specs.List.{range_with_len}
 use Rattle.std.proofs.lemmas.Bool.{ne_eqb, or_left, or_right}
 use Rattle.std.proofs.lemmas.List.{map-append, get_or-append-add}
 use Rattle.std.proofs.lemmas.List.Elements.{filter-append}
-use Rattle.qn_sign.specs.Sign.{is_in, IsDistinct, Perm}
+use Rattle.qn_sign.specs.Sign.{is_in}
 use Rattle.qn_sign.specs.Positions.{positions}
 use Rattle.qn_index.specs.declared.leg.Dir.{Dir}
 use Rattle.qn_index.specs.declared.leg.Dir.TheVariants.{Out, In}
 use Rattle.qn_index.specs.Legs.{LegValue, Meets, flipped, other_way, total}
-use Rattle.qn_value.specs.Networks.{End, Bond, Assignment, assign, in_end, out_end, values}
-use Rattle.qn_value.specs.Labels.{is_inward}
+use Rattle.qn_value.specs.Networks.{End, Bond, Assignment, assign, values}
 use Rattle.qn_value.specs.Local.{no_leg, is_coupled, label_at, IsCoupling}
 use Rattle.qn_value.proofs.BlockRows.{all-nil, all-cons}
-use Rattle.qn_value.proofs.CoupleLemmas.{open_before}
 use Rattle.qn_value.proofs.CoupledLemmas.{leg_at}
 use Rattle.qn_match.specs.Pairs.{IsShared}
-use Rattle.qn_strides.specs.Strides.{in_place, out_place, open_places}
-use Rattle.qn_strides.proofs.Goal.{of_positions, open_label, end_with, end_at, all_ends, bonds_at, AreEnds, numbered_ends, numbered}
-use Rattle.qn_strides.proofs.Opens.{left_ends, left_legs}
-use Rattle.qn_kernel.specs.Sources.{couples_of}
+use Rattle.qn_strides.specs.Strides.{open_places}
+use Rattle.qn_strides.proofs.Goal.{of_positions, open_label, end_at, all_ends, AreEnds, numbered_ends, numbered}
+use Rattle.qn_strides.proofs.Opens.{left_ends}
 use Rattle.qn_pair.proofs.Words.{range_append, coupling}
 
 -- lists over ranges

@@ -1,5 +1,5 @@
 -- A tensor weighed by a diagonal one.
-use Rattle.std.proofs.Common.{◌≡◌, ◌≤◌, ◌<◌, ℕ, zero, suc, ◌+◌, ◌-◌, ◌*◌, ◌==◌, ℤ, pos, negsuc, Bool, true, false, ◌&&◌, cond, List, [], ◌∷◌, ◌++◌, refl, sym, ◌∙◌, ap, ap₂, subst, map, length, drop, get_or, append-nil, zero-add, eqb-true, eq-eqb, ◌⊎◌, inl, inr, arith}
+use Rattle.std.proofs.Common.{◌≡◌, ◌<◌, ℕ, suc, ◌+◌, ◌-◌, ◌*◌, ◌==◌, pos, true, false, ◌&&◌, cond, List, [], ◌∷◌, ◌++◌, refl, sym, ◌∙◌, ap, ap₂, subst, map, length, drop, get_or, append-nil, zero-add, eqb-true, eq-eqb, ◌⊎◌, inl, inr, arith}
 use Rattle.std.specs.List.{All, range_with_len}
 use Rattle.std.proofs.lemmas.Bool.{or_left, or_right, or_cases}
 use Rattle.std.proofs.lemmas.List.{map-append, length-append, get_or-append-add}
@@ -12,33 +12,29 @@ use Rattle.qn_sign.proofs.Positions.{positions_stand_for_things}
 use Rattle.qn_sign.proofs.Order.{is_in-append}
 use Rattle.qn_sign.proofs.Parity.{perm-sym, perm_blocks}
 use Rattle.qn_gauss.specs.Gaussian.{Gaussian, zero_g, mul_g, mag, signed}
-use Rattle.qn_charge.specs.declared.factor.Factor.{Factor}
-use Rattle.qn_charge.specs.Charges.{parity, zero_charge, sum_charge}
-use Rattle.qn_charge.specs.Laws.{zero_is_neutral}
+use Rattle.qn_charge.specs.Charges.{parity, zero_charge}
 use Rattle.qn_index.specs.declared.leg.Dir.{Dir}
 use Rattle.qn_index.specs.declared.leg.Dir.TheVariants.{Out, In}
-use Rattle.qn_index.specs.Legs.{LegValue, SectorValue, total, flipped, other_way, parity_at}
+use Rattle.qn_index.specs.Legs.{LegValue, total, flipped, other_way, parity_at}
 use Rattle.qn_index.specs.Places.{IsValues}
 use Rattle.qn_value.specs.Networks.{End, Node, Bond, Assignment, Parities, same_end, odd_end, in_end, out_end, goal, word, values, at_values, flat, IsNetwork}
-use Rattle.qn_value.specs.Tensors.{Row, TensorValue, IsTensor, entry_of}
-use Rattle.qn_value.specs.Labels.{Slot, is_inward, slots, ends, node_of, sectors_on, parity_of, bonds_of, opens_of}
-use Rattle.qn_value.specs.Local.{no_leg, label_at, is_coupled, picked, parities, moving_sign, open_from, open_legs, shared_couples, pair_network, pair_entry, IsCoupling, Moved, Pairwise}
+use Rattle.qn_value.specs.Tensors.{Row, TensorValue, entry_of}
+use Rattle.qn_value.specs.Labels.{Slot, is_inward, ends, node_of, sectors_on, parity_of, bonds_of, opens_of}
+use Rattle.qn_value.specs.Local.{no_leg, label_at, picked, parities, moving_sign, open_from, open_legs, pair_network, pair_entry, IsCoupling}
 use Rattle.qn_value.specs.Magnitudes.{total as total_of, magnitudes, pair_magnitude}
 use Rattle.qn_value.proofs.NetLaws.{end_test}
 use Rattle.qn_value.proofs.RowsLemmas.{values_back, append_parts}
 use Rattle.qn_value.proofs.OrderLaws.{opens_law}
-use Rattle.qn_value.proofs.CoupleLemmas.{open_before}
 use Rattle.qn_value.proofs.CoupledLemmas.{leg_at}
-use Rattle.qn_strides.specs.Strides.{in_place, out_place, open_places}
-use Rattle.qn_strides.proofs.Goal.{of_positions, below_positions, end_at, all_ends, bonds_at, bonds_perm, opens_at, AreEnds}
+use Rattle.qn_strides.proofs.Goal.{of_positions, all_ends, bonds_perm, opens_at, AreEnds}
 use Rattle.qn_strides.proofs.Lines.{all_slots, ends_all, all_within, goal_perm, lines_fit, open_at, open_within}
-use Rattle.qn_strides.proofs.Opens.{left_legs, left_ends, left_count, left_distinct, length_maps, ends_distinct}
+use Rattle.qn_strides.proofs.Opens.{left_legs, left_count, left_distinct, ends_distinct}
 use Rattle.qn_pair.proofs.Words.{range_append}
 use Rattle.qn_pair.proofs.Contracted.{slots_two, first_labelled, second_labelled}
 use Rattle.qn_unmet.proofs.Alike.{first_count, ends_whole}
-use Rattle.qn_diagonal.specs.Diagonal.{diagonal_entry, IsDiagonal, put_back, Weighed, DiagonalLaw}
-use Rattle.qn_diagonal.proofs.Nodes.{nodes, opens, Turned, IsWeighing, weighs, sizes}
-use Rattle.qn_diagonal.proofs.Places.{map_range, shared, good, leg_later, first_open, lefts_open, rights_open, open_is, all_is, ends_left, bond_ends, label_apart, values_apart, whole, couples, end, left, right, bond}
+use Rattle.qn_diagonal.specs.Diagonal.{diagonal_entry, put_back}
+use Rattle.qn_diagonal.proofs.Nodes.{nodes, Turned, IsWeighing, weighs, sizes}
+use Rattle.qn_diagonal.proofs.Places.{map_range, shared, good, leg_later, first_open, lefts_open, rights_open, open_is, all_is, ends_left, bond_ends, label_apart, values_apart, end, left, right, bond}
 
 -- ---- lists
 

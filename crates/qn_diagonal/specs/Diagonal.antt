@@ -1,6 +1,6 @@
 -- Rules that weigh the values of one leg: diagonal tensors with this leg and the same leg turned.
 -- Singh, Pfeifer and Vidal 2010; the sign by the exchange rule of super vector spaces.
-use Rattle.std.specs.Prelude.{◌≡◌, ◌≢◌, ◌<◌, ℕ, ◌+◌, ◌-◌, ◌*◌, ◌==◌, Bool, false, ◌&&◌, cond, List, [], ◌∷◌, ◌++◌, length, slice_index_or}
+use Rattle.std.specs.Prelude.{◌≡◌, ◌≢◌, ◌<◌, ℕ, ◌+◌, ◌-◌, ◌*◌, ◌==◌, false, ◌&&◌, cond, List, [], ◌∷◌, ◌++◌, length, slice_index_or}
 use Rattle.std.specs.List.{range_with_len}
 use Rattle.qn_gauss.specs.Gaussian.{Gaussian, zero_g, one_g, mul_g, mag, signed}
 use Rattle.qn_charge.specs.declared.factor.Factor.{Factor}

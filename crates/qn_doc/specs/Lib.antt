@@ -5,5 +5,4 @@ pub mod Networks
 pub mod NetworkTexts
 pub mod TensorsReadBack
 pub mod NetworksReadBack
-pub mod Rules
 pub mod WorkedDocument

@@ -1,5 +1,6 @@
 -- A rule of one leg can be contracted with a tensor, and what comes of it.
 use Rattle.std.proofs.Common.{◌≡◌, ◌≤◌, ◌<◌, ℕ, suc, ◌+◌, ◌-◌, ◌^◌, false, List, [], ◌∷◌, ◌++◌, sym, ◌∙◌, ap, subst, length, get_or, arith}
+use Rattle.std.proofs.lemmas.List.{append_assoc}
 use Rattle.std.specs.List.{All, range_with_len}
 use Rattle.qn_sign.specs.Sign.{Perm}
 use Rattle.qn_sign.specs.Positions.{positions, IsOrder}
@@ -27,6 +28,14 @@ use Rattle.qn_lazy.specs.LegRules.{LegRuleValue, legs_of, weight_of, rule_table}
 use Rattle.qn_lazy.specs.Meaning.{answers_of, as_rule}
 use Rattle.qn_lazy.proofs.Meanings.{leg_rule_law}
 use Rattle.qn_lazy.proofs.Tables.{has_table_law}
+
+-- a range that was appended, and the number after it
+pub range_more : (before out new : List ℕ) (first i : ℕ) → out ≡ before ++ range_with_len first i → new ≡ out ++ (first + i) ∷ [] → new ≡ before ++ range_with_len first (i + 1)
+range_more before out new first i e f =
+    f
+    ∙ ap (λ (xs : List ℕ). xs ++ (first + i) ∷ []) e
+    ∙ append_assoc before (range_with_len first i) ((first + i) ∷ [])
+    ∙ ap (λ xs. before ++ xs) (sym (range_append first i 1))
 
 -- putting the first leg back is an order of the legs
 pub put_back_order : (m n : ℕ) → m < n → IsOrder n (put_back m n)
@@ -104,9 +113,6 @@ module _ (t : BlockedValue) (m : ℕ) (h : IsBlocked t) (lt : m < length t.legs)
         ap (λ (ls : List LegValue). length ls)
         (pair.legs ∙ sym (legs_open (rule_table r) (tensor_of t) ((1, m) ∷ []) rule_paired.legs) ∙ (λ i. joined ((1, m) ∷ []) (legs_of (leg i)) t.legs) ∙ legs_are)
         ∙ length-perm first_perm
-
-    pub ordered : (p : TensorValue) → Pairwise (rule_table r) (tensor_of t) ((1, m) ∷ []) false p → IsOrder (length p.legs) (put_back m (length t.legs))
-    ordered p pair = subst (λ n. IsOrder n (put_back m (length t.legs))) (sym (as_many p pair)) (put_back_order m (length t.legs) lt)
 
     pub weighed : (p q : TensorValue) → Pairwise (rule_table r) (tensor_of t) ((1, m) ∷ []) false p → Moved p (put_back m (length t.legs)) q →
         Weighed (tensor_of t) m (weight_of r.leg r.part) q

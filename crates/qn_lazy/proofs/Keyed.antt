@@ -1,5 +1,7 @@
 -- Tuples found by their sectors on the shared legs.
-use Rattle.std.proofs.Common.{◌≡◌, ℕ, ◌==◌, ◌&&◌, ◌||◌, Bool, true, false, cond, List, [], ◌∷◌, ◌++◌, filter, get_or, refl, sym, ◌∙◌, ap, ap₂}
+use Rattle.std.proofs.Common.{◌≡◌, ℕ, ◌==◌, ◌&&◌, ◌||◌, Bool, true, false, cond, List, [], ◌∷◌, ◌++◌, filter, get_or, take, length, ◌<◌, ◌+◌, refl, sym, ◌∙◌, ap, ap₂}
+use Rattle.std.proofs.lemmas.List.{take_more}
+use Rattle.std.proofs.lemmas.List.Elements.{filter-append}
 use mathlib.Core.Path.{fun_ext}
 use Rattle.std.specs.Prelude.{nat_eq}
 use Rattle.std.specs.Cmp.Lexicographic.{pointwise, nat_list_eq_equiv}
@@ -19,22 +21,27 @@ one_key (p ∷ ps) t u = ap (λ b. (get_or t p.0 0 == get_or u p.1 0) && b) (one
 abbrev pub same_key : SmallVec ℕ → SmallVec ℕ → Bool
 same_key v w = pointwise nat_eq v.items w.items
 
+either : (a b : Bool) → cond a true b ≡ (a || b)
+either true b = refl
+either false b = refl
+
 pub key_added : {S : Type 0} (m n : IndexSet (SmallVec ℕ) S) (key : SmallVec ℕ) → Updates same_key m n key true →
     (other : List ℕ) → has_key n other ≡ (pointwise nat_eq other key.items || has_key m other)
 key_added m n key up other =
     up.0 (record { items = other; capacity = 0 })
     ∙ ap (λ b. cond b true (has_key m other)) (nat_list_eq_equiv.symm key.items other)
-
-pub any_more : (f : BlockValue → Bool) (bs : List BlockValue) (b : BlockValue) → (f b || list_any f bs) ≡ list_any f (bs ++ b ∷ [])
-any_more f [] b = refl
-any_more f (d ∷ ds) b = turned (f b) (f d) (list_any f ds) ∙ ap (λ t. f d || t) (any_more f ds b)
-  where
-    turned : (a c e : Bool) → (a || (c || e)) ≡ (c || (a || e))
-    turned true true e = refl
-    turned true false e = refl
-    turned false c e = refl
+    ∙ either (pointwise nat_eq other key.items) (has_key m other)
 
 pub met_by_keys : {S : Type 0} (shared : List (ℕ × ℕ)) (blocks : List BlockValue) (keys : IndexSet (SmallVec ℕ) S) → AreKeys shared blocks keys →
     (ts : List (List ℕ)) → filter (λ t. has_key keys (first_sectors shared t)) ts ≡ filter (is_met shared blocks) ts
 met_by_keys shared blocks keys h ts =
     ap (λ p. filter p ts) (fun_ext (λ t. h (first_sectors shared t) ∙ ap (λ f. list_any f blocks) (fun_ext (λ (b : BlockValue). one_key shared t b.tuple))))
+
+-- what was kept of a list's first elements, and of the next
+pub filter_more : (p : List ℕ → Bool) (out new ts : List (List ℕ)) (i : ℕ) (t : List ℕ) → i < length ts → t ≡ get_or ts i t →
+    out ≡ filter p (take i ts) → new ≡ out ++ filter p (t ∷ []) → new ≡ filter p (take (i + 1) ts)
+filter_more p out new ts i t lt is before e =
+    e
+    ∙ ap (λ (xs : List (List ℕ)). xs ++ filter p (t ∷ [])) before
+    ∙ sym (filter-append p (take i ts) (t ∷ []))
+    ∙ ap (filter p) (ap (λ u. take i ts ++ u ∷ []) is ∙ sym (take_more ts i t lt))

@@ -5,3 +5,5 @@ pub mod Listed
 pub mod Meanings
 pub mod Parts
 pub mod Tables
+pub mod Sequences
+pub mod Weighing

@@ -3,3 +3,4 @@ pub mod Examples
 pub mod Keys
 pub mod LegRules
 pub mod Meaning
+pub mod Rules

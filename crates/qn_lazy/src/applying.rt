@@ -3,7 +3,7 @@ ghost use Rattle.std.specs.Prelude.{◌≡◌, ◌≤◌, ◌<◌, ◌+◌, ◌+
 ghost use Rattle.std.specs.List.{range_with_len};
 ghost use Rattle.qn_charge.specs.Charges.{zero_charge};
 ghost use Rattle.qn_index.specs.Extents.{IsWithinLimits};
-ghost use Rattle.qn_value.specs.Local.{no_leg};
+ghost use Rattle.qn_value.specs.Local.{no_leg, Moved};
 ghost use Rattle.qn_block.specs.Blocked.{tensor_of};
 ghost use Rattle.qn_block.specs.Steps.{IsStepFault};
 ghost use Rattle.qn_match.specs.Cost.{cost_of};
@@ -23,6 +23,7 @@ use std::sync::ledger::Ledger;
 use std::thread::Threads;
 
 /// Appends as many numbers from `first` on.
+#[tactic(auto, using(crate::proofs::Applied::range_more))]
 fn append_range(first: usize, count: usize, out: &mut Vec<usize>) -> Result<(), AllocError>
     requires { first + count ≤ 64 }
     ensures { OnOk result (out.new.items ≡ out.old.items ++ range_with_len first count) }
@@ -44,6 +45,21 @@ fn put_back(alloc: Global, m: usize, n: usize) -> Result<Vec<usize>, AllocError>
     order.push(0)?;
     append_range(m + 1, n - m - 1, &mut order)?;
     Ok(order)
+}
+
+/// The tensor with its first leg put behind the next `m` ones.
+fn first_put_back<const K: usize, R: Threads + Sync>(
+    rt: &R,
+    alloc: Global,
+    t: &BlockTensor<K>,
+    m: usize,
+) -> Result<BlockTensor<K>, AllocError>
+    requires { m < length t.now.legs }
+    ensures { IfOk result (λ r. Moved (tensor_of t.now) (put_back m (length t.now.legs)) (tensor_of r)) }
+{
+    t.known();
+    let order = put_back(alloc, m, t.legs().len())?;
+    permute(rt, alloc, t, &order)
 }
 
 /// The tensor with each entry multiplied by the weight that the rule gives to its value at leg `m`. The rule is contracted
@@ -73,7 +89,11 @@ pub fn apply_rule<const K: usize, R: Threads + Sync, L: Ledger, M: Ledger>(
     t.known();
     one_answer_law();
     let counted = rule.rule(alloc)?;
-    let moved = contract_lazy(rt, alloc, &counted, t, &[(1, m)], false, steps, asks)?;
-    let order = put_back(alloc, m, t.legs().len())?;
-    Ok(permute(rt, alloc, &moved, &order)?)
+    match contract_lazy(rt, alloc, &counted, t, &[(1, m)], false, steps, asks) {
+        Ok(moved) => match first_put_back(rt, alloc, &moved, m) {
+            Ok(weighed) => Ok(weighed),
+            Err(_) => Err(StepFault::Memory),
+        },
+        Err(fault) => Err(fault),
+    }
 }

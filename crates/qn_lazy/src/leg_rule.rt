@@ -160,10 +160,7 @@ impl<const K: usize> EntryFunction for LegRule<K> {
 }
 
 /// The leg and the same leg turned.
-pub(crate) fn both_legs<const K: usize>(
-    alloc: Global,
-    leg: &Leg<K>,
-) -> Result<Vec<Leg<K>>, AllocError>
+pub fn both_legs<const K: usize>(alloc: Global, leg: &Leg<K>) -> Result<Vec<Leg<K>>, AllocError>
     ensures { IfOk result (λ v. v.items ≡ legs_of leg.now) }
 {
     let mut legs = Vec::with_capacity(alloc, 2)?;

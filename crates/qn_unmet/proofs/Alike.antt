@@ -1,33 +1,33 @@
 -- Contractions of tensors that differ only where they meet nothing.
-use Rattle.std.proofs.Common.{◌≡◌, ◌<◌, ℕ, zero, suc, ◌+◌, ◌*◌, ◌==◌, ℤ, Bool, true, false, ◌&&◌, cond, List, [], ◌∷◌, ◌++◌, refl, sym, ◌∙◌, ap, ap₂, subst, map, length, take, drop, get_or, append-nil, eq-eqb, zero-add, ◌⊎◌, inl, inr, arith, int_eq}
+use Rattle.std.proofs.Common.{◌≡◌, ◌<◌, ℕ, suc, ◌*◌, ℤ, Bool, true, ◌&&◌, cond, List, [], ◌∷◌, ◌++◌, refl, sym, ◌∙◌, ap, ap₂, subst, map, length, get_or, append-nil, eq-eqb, zero-add, ◌⊎◌, inl, inr, arith, int_eq}
 use mathlib.Core.Path.{fun_ext}
-use Rattle.std.specs.List.{All, range_with_len}
-use Rattle.std.proofs.lemmas.List.{map-append, length-append}
+use Rattle.std.specs.List.{All}
+use Rattle.std.proofs.lemmas.List.{map-append}
 use Rattle.std.proofs.lemmas.List.FromFn.{get_or-map-range_with_len}
 use Rattle.qn_sign.specs.Positions.{positions}
-use Rattle.qn_gauss.specs.Gaussian.{Gaussian, zero_g, one_g, mul_g, mag, signed}
+use Rattle.qn_gauss.specs.Gaussian.{zero_g, one_g, mul_g, mag, signed}
 use Rattle.qn_gauss.proofs.Ring.{zero_mul, mul_zero}
 use Rattle.qn_charge.specs.Charges.{parity, sum_charge}
 use Rattle.qn_index.specs.Tuples.{admitted}
 use Rattle.qn_index.specs.Legs.{LegValue}
-use Rattle.qn_value.specs.Networks.{End, Node, flat, Parities, Bond, Assignment, assign, in_end, out_end, sums, product, sign, values, at_values}
+use Rattle.qn_value.specs.Networks.{End, Bond, Assignment, assign, in_end, out_end, product, sign, values, at_values}
 use Rattle.qn_value.specs.Tensors.{Row, TensorValue, entry_of, entry_at}
-use Rattle.qn_value.specs.Labels.{Placed, Slot, slots_of, slots, ends, node_of, bonds_of, opens_of, parity_of}
-use Rattle.qn_value.specs.Local.{Pairwise, open_from, open_legs, labels_of, coupled, shared_couples, pair_network, pair_entry, IsCoupling}
-use Rattle.qn_value.specs.Magnitudes.{first_passing, total_below, total, magnitudes, mag_at, pair_magnitude}
+use Rattle.qn_value.specs.Labels.{Slot, slots_of, slots, ends, node_of, bonds_of, opens_of, parity_of}
+use Rattle.qn_value.specs.Local.{open_from, open_legs, shared_couples, pair_network, pair_entry, IsCoupling}
+use Rattle.qn_value.specs.Magnitudes.{first_passing, total_below, total, magnitudes, pair_magnitude}
 use Rattle.qn_value.specs.Rows.{meet_on}
 use Rattle.qn_value.proofs.Sums.{Meets, meets-perm, assign_both, sums-meet}
 use Rattle.qn_value.proofs.MagnitudeLemmas.{mag_zero}
-use Rattle.qn_value.proofs.CoupledLemmas.{word_of, all_long}
+use Rattle.qn_value.proofs.CoupledLemmas.{all_long}
 use Rattle.qn_match.specs.Pairs.{agree, IsShared}
 use Rattle.qn_strides.specs.Strides.{couples_meet}
 use Rattle.qn_strides.proofs.Goal.{bonds_at, bonds_perm, end_at, all_ends, numbered}
 use Rattle.qn_strides.proofs.Along.{map-map}
-use Rattle.qn_strides.proofs.Lines.{all_slots, ends_all, GivesTuple, meets_are}
+use Rattle.qn_strides.proofs.Lines.{ends_all, GivesTuple, meets_are}
 use Rattle.qn_kernel.specs.Sources.{couples_of}
 use Rattle.qn_pair.proofs.Words.{coupling, couples_agree}
 use Rattle.qn_pair.proofs.Contracted.{slots_two, first_labelled, second_labelled}
-use Rattle.qn_unmet.specs.Unmet.{MeetsNothing, AreAlikeFor, UnmetLaw, UnmetPairLaw, passing_place}
+use Rattle.qn_unmet.specs.Unmet.{MeetsNothing, UnmetLaw, UnmetPairLaw, passing_place}
 
 -- sums of natural numbers whose summands agree wherever the ends of each bond have one value
 

@@ -1,4 +1,0 @@
-use Rattle.qn_lazy.proofs.tests.expect_cases.Given as goal
-
-abbrev pub ghosts-expect_all : goal.ghosts-expect_all
-ghosts-expect_all g a = record { name = a.blank.name; parts = a.blank.parts }
