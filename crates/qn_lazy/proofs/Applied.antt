@@ -1,7 +1,7 @@
 -- A rule of one leg can be contracted with a tensor, and what comes of it.
-use Rattle.std.proofs.Common.{◌≡◌, ◌≤◌, ◌<◌, ℕ, suc, ◌+◌, ◌-◌, ◌^◌, false, List, [], ◌∷◌, ◌++◌, sym, ◌∙◌, ap, subst, length, get_or, arith}
+use Rattle.std.proofs.Common.{◌≡◌, ◌≤◌, ◌<◌, ℕ, suc, ◌+◌, ◌-◌, ◌^◌, false, List, [], ◌∷◌, ◌++◌, sym, ◌∙◌, ap, subst, length, arith}
 use Rattle.std.proofs.lemmas.List.{append_assoc}
-use Rattle.std.specs.List.{All, range_with_len}
+use Rattle.std.specs.List.{range_with_len}
 use Rattle.qn_sign.specs.Sign.{Perm}
 use Rattle.qn_sign.specs.Positions.{positions, IsOrder}
 use Rattle.qn_sign.proofs.Positions.{orders_are_permutations, length-perm}
@@ -20,7 +20,7 @@ use Rattle.qn_permute.proofs.Widths.{count_perm, entries_perm}
 use Rattle.qn_match.specs.Pairs.{joined, ArePaired}
 use Rattle.qn_match.proofs.OpenLegs.{legs_open}
 use Rattle.qn_pair.proofs.Words.{range_append}
-use Rattle.qn_diagonal.specs.Diagonal.{IsDiagonal, put_back, Weighed}
+use Rattle.qn_diagonal.specs.Diagonal.{put_back, Weighed}
 use Rattle.qn_diagonal.proofs.Places.{shared}
 use Rattle.qn_diagonal.proofs.Weighing.{before, after, split_is, diagonal, legs_open as diagonal_open}
 use Rattle.qn_lazy.specs.Asked.{IsTable}

@@ -1,13 +1,12 @@
 -- A rule of one leg is a rule.
-use Rattle.std.proofs.Common.{◌≡◌, ◌<◌, ℕ, ℤ, List, [], ◌∷◌, ◌^◌, length, get_or, refl, sym, ◌∙◌, ap, subst, arith}
+use Rattle.std.proofs.Common.{◌≡◌, ℕ, List, [], ◌∷◌, ◌^◌, ◌∙◌}
 use Rattle.std.specs.List.{All}
 use Rattle.qn_gauss.specs.Gaussian.{Gaussian, zero_g}
 use Rattle.qn_charge.specs.declared.factor.Factor.{Factor}
 use Rattle.qn_charge.specs.Charges.{IsGroup, zero_charge}
 use Rattle.qn_charge.specs.Laws.{canonical_zero, within_zero}
-use Rattle.qn_index.specs.Legs.{LegValue, IsLegOf, flipped}
+use Rattle.qn_index.specs.Legs.{IsLegOf, flipped}
 use Rattle.qn_index.specs.Tuples.{IsFlux}
-use Rattle.qn_index.specs.Places.{IsValues}
 use Rattle.qn_rule.specs.Rules.{IsOffFlux}
 use Rattle.qn_value.proofs.BlockRows.{all-nil, all-cons}
 use Rattle.qn_diagonal.proofs.Conserving.{diagonal_conserves_law}

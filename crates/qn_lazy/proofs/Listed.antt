@@ -1,5 +1,5 @@
 -- The blocks that a rule is asked for, and how often it is asked.
-use Rattle.std.proofs.Common.{Contains, ◌≡◌, ◌≤◌, ◌<◌, ℕ, ℤ, zero, suc, ◌+◌, List, [], ◌∷◌, ◌++◌, length, get_or, take, drop, filter, cond, Bool, true, false, refl, sym, ◌∙◌, ap, subst, ◌⊎◌, inl, inr, arith}
+use Rattle.std.proofs.Common.{Contains, ◌≡◌, ◌≤◌, ◌<◌, ℕ, ℤ, List, [], length, get_or, filter, Bool, true, sym, subst, arith}
 use Rattle.std.specs.List.{All, AllPairs}
 use Rattle.std.proofs.lemmas.List.{get_or_default}
 use Rattle.std.proofs.lemmas.List.Elements.{All-filter}
@@ -8,11 +8,11 @@ use Rattle.qn_gauss.specs.Gaussian.{Gaussian}
 use Rattle.qn_charge.specs.declared.factor.Factor.{Factor}
 use Rattle.qn_index.specs.Legs.{LegValue}
 use Rattle.qn_index.specs.Tuples.{IsAdmissible, admitted}
-use Rattle.qn_index.specs.Places.{block_size, sectors_at}
-use Rattle.qn_index.specs.Extents.{IsWithinLimits, entries, size_of}
-use Rattle.qn_index.proofs.Admitted.{keeps, listed, unlisted, block_within, size_append}
+use Rattle.qn_index.specs.Places.{sectors_at}
+use Rattle.qn_index.specs.Extents.{IsWithinLimits, entries}
+use Rattle.qn_index.proofs.Admitted.{keeps, listed, unlisted, block_within}
 use Rattle.qn_index.proofs.Places.{forth}
-use Rattle.qn_value.specs.Tensors.{BlockValue, IsBlock, AreAscending, entry_in}
+use Rattle.qn_value.specs.Tensors.{BlockValue, AreAscending, entry_in}
 use Rattle.qn_block.specs.Blocked.{MeetFlux}
 use Rattle.qn_block.specs.Refusals.{block_at}
 use Rattle.qn_block.proofs.Written.{Under, admitted_pairs, IsListed, IsFilled, filled_ascend, filled_answer}

@@ -1,13 +1,9 @@
 -- What a rule of one leg means.
-use Rattle.std.proofs.Common.{◌≡◌, ◌<◌, ℕ, List, [], ◌∷◌, refl, sym, ◌∙◌, get_or, subst}
-use Rattle.qn_gauss.specs.Gaussian.{Gaussian}
-use Rattle.qn_charge.specs.declared.factor.Factor.{Factor}
-use Rattle.qn_index.specs.Legs.{LegValue}
-use Rattle.qn_value.specs.Tensors.{TensorValue}
+use Rattle.std.proofs.Common.{[], ◌∷◌, refl, sym, ◌∙◌, get_or, subst}
 use Rattle.qn_value.specs.Local.{no_leg}
 use Rattle.qn_diagonal.specs.Diagonal.{IsDiagonal}
 use Rattle.qn_diagonal.proofs.Diagonals.{diagonal_law}
-use Rattle.qn_lazy.specs.LegRules.{LegRuleValue, weight_of}
+use Rattle.qn_lazy.specs.LegRules.{weight_of}
 use Rattle.qn_lazy.specs.Meaning.{OneAnswerLaw, TableLaw, LegRuleLaw}
 
 pub one_answer_law : OneAnswerLaw

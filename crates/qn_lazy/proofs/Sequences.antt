@@ -1,14 +1,10 @@
 -- Rules one after another.
-use Rattle.std.proofs.Common.{◌≡◌, ◌≤◌, ◌<◌, ℕ, suc, ◌+◌, Option, Some, None, List, [], ◌∷◌, refl, sym, ◌∙◌, ap, subst, length, drop, get_or, add-one, arith}
+use Rattle.std.proofs.Common.{◌≡◌, ◌≤◌, ◌<◌, ℕ, ◌+◌, None, List, ◌∷◌, sym, ◌∙◌, ap, length, drop, get_or, add-one, arith}
 use Rattle.std.specs.Option.{option_or, option_map}
-use Rattle.std.specs.List.{All}
 use Rattle.std.proofs.Math.Seq.{drop-cons}
-use Rattle.std.proofs.lemmas.List.{drop_all}
-use Rattle.qn_charge.specs.declared.factor.Factor.{Factor}
-use Rattle.qn_index.specs.Legs.{LegValue}
 use Rattle.qn_value.specs.Magnitudes.{Place}
 use Rattle.qn_block.specs.Blocked.{BlockedValue}
-use Rattle.qn_lazy.specs.Rules.{RulePlace, IsRuleOn, all_applied, applied, asked_of_rule, asked_of_rules, cost_of_rule, cost_of_rules, first_passing_rule, passing_of}
+use Rattle.qn_lazy.specs.Rules.{RulePlace, all_applied, applied, asked_of_rule, asked_of_rules, cost_of_rule, cost_of_rules, first_passing_rule, passing_of}
 use Rattle.qn_lazy.specs.declared.lazy_rule.LazyRule.{LazyRule}
 
 -- where the rules from place i on are to be applied to t, those before having been applied to s

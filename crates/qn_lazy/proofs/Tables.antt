@@ -1,20 +1,18 @@
 -- The table of a rule of one leg.
-use Rattle.std.proofs.Common.{◌≡◌, ◌≤◌, ◌<◌, ℕ, zero, suc, ◌+◌, ◌==◌, ℤ, Bool, true, false, ◌&&◌, cond, List, [], ◌∷◌, refl, sym, ◌∙◌, ap, ap₂, subst, map, length, get_or, eqb-true, arith}
+use Rattle.std.proofs.Common.{◌≡◌, ◌≤◌, ◌<◌, ℕ, zero, suc, ◌+◌, ◌==◌, Bool, true, false, ◌&&◌, cond, List, [], ◌∷◌, refl, sym, ◌∙◌, ap, ap₂, map, eqb-true, arith}
 use Rattle.std.specs.List.{All, range_with_len}
 use Rattle.std.proofs.lemmas.Bool.{ne_eqb, eqb-false}
 use Rattle.qn_gauss.specs.Gaussian.{Gaussian, zero_g, signed}
-use Rattle.qn_charge.specs.declared.factor.Factor.{Factor}
 use Rattle.qn_charge.specs.Charges.{IsGroup, zero_charge}
 use Rattle.qn_charge.specs.Laws.{canonical_zero}
-use Rattle.qn_index.specs.Legs.{LegValue, IsLegOf, IsSound, flipped, total, parity_at}
+use Rattle.qn_index.specs.Legs.{IsLegOf, IsSound, flipped, total, parity_at}
 use Rattle.qn_index.specs.Places.{IsValues}
 use Rattle.qn_value.specs.Labels.{is_inward}
 use Rattle.qn_value.specs.Tensors.{Row, IsRow, IsNew, AreDistinct, entry_at}
 use Rattle.qn_value.proofs.BlockRows.{all-nil, all-cons}
 use Rattle.qn_diagonal.proofs.Conserving.{net_of_pair}
-use Rattle.qn_lazy.specs.Asked.{IsTable}
 use Rattle.qn_lazy.specs.LegRules.{LegRuleValue, legs_of, weight_of, entry_of_rule, rule_table}
-use Rattle.qn_lazy.specs.Meaning.{HasTableLaw, answers_of, as_rule}
+use Rattle.qn_lazy.specs.Meaning.{HasTableLaw}
 use Rattle.qn_lazy.proofs.Lawful.{both_charges}
 
 beyond : (a v : ℕ) → a ≤ v → (a ≡ v → ⊥) → a + 1 ≤ v

@@ -1,17 +1,13 @@
 -- A tensor whose entries are known, without its blocks of zeros.
-use Rattle.std.proofs.Common.{◌≡◌, ℕ, Bool, true, false, cond, List, [], ◌∷◌, refl, sym, ◌∙◌, ap, subst, filter, get_or}
+use Rattle.std.proofs.Common.{◌≡◌, ℕ, Bool, true, false, cond, List, [], ◌∷◌, refl, sym, ◌∙◌, ap, subst, filter}
 use Rattle.std.specs.List.{All}
-use Rattle.qn_gauss.specs.Gaussian.{Gaussian, mul_g}
+use Rattle.qn_gauss.specs.Gaussian.{Gaussian}
 use Rattle.qn_index.specs.Tuples.{admitted}
 use Rattle.qn_index.specs.Places.{IsValues}
 use Rattle.qn_value.specs.Tensors.{BlockValue, entry_of}
 use Rattle.qn_value.specs.Magnitudes.{all_blocks}
 use Rattle.qn_value.proofs.BlockRows.{all-nil, all-cons}
 use Rattle.qn_block.specs.Blocked.{BlockedValue, IsBlocked, is_filled, tensor_of}
-use Rattle.qn_diagonal.specs.Diagonal.{Weighed}
-use Rattle.qn_lazy.specs.LegRules.{LegRuleValue, weight_of}
-use Rattle.qn_lazy.specs.Rules.{applied, place_of, rule_on}
-use Rattle.qn_lazy.specs.declared.lazy_rule.LazyRule.{LazyRule}
 
 -- the tensor of the shape of t with these entries, without blocks of zeros
 abbrev pub with_entries : BlockedValue → (List ℕ → Gaussian) → BlockedValue

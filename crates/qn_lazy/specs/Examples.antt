@@ -1,5 +1,5 @@
 -- A rule of a leg with three values, contracted with a vector that has one block.
-use Rattle.std.specs.Prelude.{◌≡◌, ℕ, ℤ, pos, false, List, [], ◌∷◌, Some}
+use Rattle.std.specs.Prelude.{◌≡◌, pos, false, List, [], ◌∷◌}
 use Rattle.qn_charge.specs.declared.factor.Factor.{Factor}
 use Rattle.qn_charge.specs.declared.factor.Factor.TheVariants.{U1}
 use Rattle.qn_charge.specs.Charges.{zero_charge}

@@ -1,6 +1,6 @@
 -- Rules that weigh the values of one leg, by 1 or by a part of their charge.
 -- Singh, Pfeifer and Vidal 2010; the sign by the exchange rule of super vector spaces.
-use Rattle.std.specs.Prelude.{◌≡◌, ◌<◌, ℕ, ℤ, pos, Option, Some, None, List, [], ◌∷◌, map, slice_index_or}
+use Rattle.std.specs.Prelude.{◌<◌, ℕ, pos, Option, Some, None, List, [], ◌∷◌, map, slice_index_or}
 use Rattle.std.specs.List.{range_with_len}
 use Rattle.qn_gauss.specs.Gaussian.{Gaussian, one_g}
 use Rattle.qn_charge.specs.declared.factor.Factor.{Factor}

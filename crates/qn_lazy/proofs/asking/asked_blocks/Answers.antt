@@ -1,8 +1,7 @@
-use Rattle.std.proofs.Common.{rules, arith, ◌≡◌, ◌∙◌, ◌≤◌, ◌<◌, ◌+◌, ◌^◌, ◌++◌, ◌∷◌, [], ap, sym, subst, length, get_or, take, ℕ, List, Bool}
-use Rattle.std.proofs.lemmas.List.{get_or_default, take_all}
+use Rattle.std.proofs.Common.{rules, arith, ◌≡◌, ◌∙◌, ◌≤◌, ◌+◌, ◌^◌, ◌++◌, ◌∷◌, [], ap, sym, subst, length, get_or, List}
+use Rattle.std.proofs.lemmas.List.{get_or_default}
 use Rattle.qn_index.specs.Tuples.{IsTuple, net}
 use Rattle.qn_index.specs.Places.{block_size}
-use Rattle.qn_index.specs.Extents.{size_of}
 use Rattle.qn_value.specs.Tensors.{BlockValue, IsBlock, no_block}
 use Rattle.qn_block.specs.Refusals.{block_at}
 use Rattle.qn_block.proofs.Written.{IsFilled, filled_more}
