@@ -1,6 +1,6 @@
 mod Columns
 mod Lines
-mod Widths
+pub mod Widths
 mod Sorted
 mod Moves
 mod Shared
