@@ -17,7 +17,8 @@ use Rattle.qn_match.specs.Pairs.{IsShared}
 use Rattle.qn_strides.specs.Strides.{open_places}
 use Rattle.qn_strides.proofs.Goal.{of_positions, open_label, end_at, all_ends, AreEnds, numbered_ends, numbered}
 use Rattle.qn_strides.proofs.Opens.{left_ends}
-use Rattle.qn_pair.proofs.Words.{range_append, coupling}
+use Rattle.qn_kernel.proofs.Places.{range_append}
+use Rattle.qn_pair.proofs.Words.{coupling}
 
 -- lists over ranges
 

@@ -29,7 +29,7 @@ use Rattle.qn_value.proofs.CoupledLemmas.{leg_at}
 use Rattle.qn_strides.proofs.Goal.{of_positions, all_ends, bonds_perm, opens_at, AreEnds}
 use Rattle.qn_strides.proofs.Lines.{all_slots, ends_all, all_within, goal_perm, lines_fit, open_at, open_within}
 use Rattle.qn_strides.proofs.Opens.{left_legs, left_count, left_distinct, ends_distinct}
-use Rattle.qn_pair.proofs.Words.{range_append}
+use Rattle.qn_kernel.proofs.Places.{range_append}
 use Rattle.qn_pair.proofs.Contracted.{slots_two, first_labelled, second_labelled}
 use Rattle.qn_unmet.proofs.Alike.{first_count, ends_whole}
 use Rattle.qn_diagonal.specs.Diagonal.{diagonal_entry, put_back}

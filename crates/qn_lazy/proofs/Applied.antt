@@ -19,7 +19,7 @@ use Rattle.qn_block.proofs.Entries.{is_tensor}
 use Rattle.qn_permute.proofs.Widths.{count_perm, entries_perm}
 use Rattle.qn_match.specs.Pairs.{joined, ArePaired}
 use Rattle.qn_match.proofs.OpenLegs.{legs_open}
-use Rattle.qn_pair.proofs.Words.{range_append}
+use Rattle.qn_kernel.proofs.Places.{range_append}
 use Rattle.qn_diagonal.specs.Diagonal.{put_back, Weighed}
 use Rattle.qn_diagonal.proofs.Places.{shared}
 use Rattle.qn_diagonal.proofs.Weighing.{before, after, split_is, diagonal, legs_open as diagonal_open}

@@ -119,7 +119,7 @@ finished-requires-after_bounds g c = λ κs h.
         lit< tt,
         (
           c.requires.way.0,
-          on_done c.requires.way.0 c.args.plan.now (length c.args.plan.now) c.carry.new.parts.items refl c.requires.way.1.formed
+          on_done c.requires.way.0 c.args.plan.now [] (length c.args.plan.now) c.carry.new.parts.items refl c.requires.way.1.formed
               (c.in-Ok-carry.ensures.carried c.requires.way.0 (at_end c.requires.way.0 c.args.plan.now c.args.sites c.loop-site.site c.loop-site.parts.items k c.steps_before.result e)),
         ),
       ),
@@ -132,7 +132,7 @@ entry-value-requires g c =
     let k = (c.loop-site.invariant.0 c.requires.way.0 c.requires.way.1).0 in (
       lit< tt,
       no_values c.requires.way.0 c.args.sites c.in_ok-scalar.scalar c.requires.way.1.sweep
-          (c.in_ok-scalar.ensures.value c.requires.way.0 (on_done c.requires.way.0 c.args.plan.now (length c.args.plan.now) c.carry.new.parts.items refl c.requires.way.1.formed
+          (c.in_ok-scalar.ensures.value c.requires.way.0 (on_done c.requires.way.0 c.args.plan.now [] (length c.args.plan.now) c.carry.new.parts.items refl c.requires.way.1.formed
           (c.in-Ok-carry.ensures.carried c.requires.way.0 (at_end c.requires.way.0 c.args.plan.now c.args.sites c.loop-site.site c.loop-site.parts.items k c.steps_before.result e)))),
     )
 
@@ -142,7 +142,7 @@ returns-clause-value g c = λ net w.
     let e : c.steps_before.result ≡ steps_before c.loop-site.site = c.steps_before.ensures ∙ ap steps_before here in
     let k = (c.loop-site.invariant.0 net w).0 in
     c.entry-value.ensures ∙ entry_is net c.args.sites c.in_ok-scalar.scalar w.sweep
-    (c.in_ok-scalar.ensures.value net (on_done net c.args.plan.now (length c.args.plan.now) c.carry.new.parts.items refl w.formed
+    (c.in_ok-scalar.ensures.value net (on_done net c.args.plan.now [] (length c.args.plan.now) c.carry.new.parts.items refl w.formed
     (c.in-Ok-carry.ensures.carried net (at_end net c.args.plan.now c.args.sites c.loop-site.site c.loop-site.parts.items k c.steps_before.result e))))
 
 pub returns-clause-clear : goal.returns-clause-clear
@@ -150,5 +150,5 @@ returns-clause-clear g c = λ net w.
     let here : c.args.sites - 1 ≡ c.loop-site.site = omega (arith, c.requires.within) in
     let e : c.steps_before.result ≡ steps_before c.loop-site.site = c.steps_before.ensures ∙ ap steps_before here in
     let k = (c.loop-site.invariant.0 net w).0 in
-    clear_done net c.args.plan.now (length c.args.plan.now) c.carry.new.parts.items refl
+    clear_done net c.args.plan.now [] (length c.args.plan.now) c.carry.new.parts.items refl
     (c.in-Ok-carry.ensures.carried net (at_end net c.args.plan.now c.args.sites c.loop-site.site c.loop-site.parts.items k c.steps_before.result e))
