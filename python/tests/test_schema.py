@@ -178,16 +178,18 @@ def test_faults_other_than_form_are_no_reason_to_miss_the_place():
 
 @IN_TREE
 def test_all_examples():
-    """The documents of the examples and of the suite, and the texts of the examples, which are the program's own."""
+    """The documents of the examples and of the suite that aren't refused, and the texts of the examples, the program's own."""
     seen = 0
     for path in sorted([*EXAMPLES.glob("**/*.json"), *SUITE.glob("cases/**/*.json")]):
         for wanted in path.parent.glob(path.stem + ".*"):
             command = wanted.suffix[1:]
             if command not in schema.COMMANDS:
                 continue
+            text = wanted.read_text()
+            if text.startswith("qntn: malformed"):
+                continue
             seen += 1
             assert schema.problems(path.read_bytes(), command) == []
-            text = wanted.read_text()
             if EXAMPLES in path.parents and not text.startswith("qntn: "):
                 assert schema.problems(text, schema.COMMANDS[command][1]) == []
     for path in EXAMPLES.glob("**/*.gen"):
