@@ -1,3 +1,5 @@
+//! The function of a rule that weighs the values of one leg.
+
 ghost use Rattle.std.specs.Prelude.{◌≡◌, ◌<◌, ◌&&◌, ℕ, ℤ, pos, List, length, IfOk};
 ghost use Rattle.std.specs.List.{All};
 ghost use Rattle.qn_gauss.specs.Gaussian.{Gaussian, zero_g, one_g, signed};
